@@ -1,0 +1,105 @@
+-- Test 3 finds no fault just where the rules of the map chain hold.
+-- Assumes nothing.
+use mathlib.Core.Path.{_≡_, refl, sym, _∙_}
+use mathlib.Core.Logic.{Dec·not, ⊎-elim}
+use mathlib.Core.List.{List, [], _∷_, List·Memᴰ·head, List·Memᴰ·tail, List·Memᴰ·not-nil, List·Memᴰ·cases-cons, Memᴰ·cast}
+use Prim.Native.Nat.{ℕ, zero, suc, _*_, _≤_, _<_}
+use native.Mathlib.Omega.{arith}
+use native.Mathlib.Decide.{decLe, decLt}
+use lib.ListN.{length}
+use Rattle.btree.specs.Lists.{_∈_, lastOr, Distinct}
+use Rattle.btree.specs.Decide.{decMem}
+use Rattle.btree.specs.Layout.{Layout}
+use Rattle.btree.specs.Tree.{View, along, mapChain}
+use Rattle.btree.specs.Image.{MapNode, mapSize, MapChain}
+use Rattle.btree.specs.Walk.{fine}
+use Rattle.btree.specs.Tests.{decMapNode, chainFrom}
+use Rattle.btree.proofs.Pigeon.{pigeon}
+use Rattle.btree.proofs.Decisions.{says-yes}
+use Rattle.btree.proofs.Clean.{passed}
+
+module _ (v : View) where
+  open View v using (total, forward)
+
+  along-nonzero : (f n x : ℕ) → x ∈ along v f n → 0 < x
+  along-nonzero zero n x m = absurd (List·Memᴰ·not-nil m)
+  along-nonzero (suc f) zero x m = absurd (List·Memᴰ·not-nil m)
+  along-nonzero (suc f) (suc n) x m = ⊎-elim (λ e. omega arith) (along-nonzero f (forward (suc n)) x) (List·Memᴰ·cases-cons m)
+
+  -- the chain's nodes are not the header
+  pub chain-nonzero : (n : ℕ) → n ∈ mapChain v → 0 < n
+  chain-nonzero = along-nonzero total (forward 0)
+
+  -- fewer links than were allowed: the last one is 0
+  along-ends : (f n p : ℕ) → forward p ≡ n → length (along v f n) < f → forward (lastOr p (along v f n)) ≡ 0
+  along-ends zero n p e l = absurd (omega arith)
+  along-ends (suc f) zero p e l = e
+  along-ends (suc f) (suc n) p e l = along-ends f (forward (suc n)) (suc n) refl (omega arith)
+
+  chain-few : 0 < total → Distinct (mapChain v) → ((n : ℕ) → n ∈ mapChain v → n < total) → length (mapChain v) < total
+  chain-few p d h =
+      pigeon total (0 ∷ mapChain v)
+      (λ m. let k = chain-nonzero 0 m in omega arith, d)
+      (λ n m. ⊎-elim (λ e. rw e p) (h n) (List·Memᴰ·cases-cons m))
+
+module _ (l : Layout) (img : List ℕ) (v : View) where
+  open View v using (total)
+
+  -- what the test asks of the links ns, after the map nodes met
+  pub record Links (met ns : List ℕ) : Type 0 where
+    pub range : (n : ℕ) → n ∈ ns → n < total
+    pub new : (n : ℕ) → n ∈ ns → n ∈ met → ⊥
+    pub once : Distinct ns
+    pub nodes : (n : ℕ) → n ∈ ns → MapNode l img n
+
+  chain-links : (met : List ℕ) (p : ℕ) (ns : List ℕ) → chainFrom l img v met p ns .number ≡ 0 → Links met ns × (total ≤ 8 * mapSize l img v)
+  unfolding chainFrom
+  chain-links met p [] e = (
+    record { range = λ n m. absurd (List·Memᴰ·not-nil m); new = λ n m. absurd (List·Memᴰ·not-nil m); once = tt; nodes = λ n m. absurd (List·Memᴰ·not-nil m) },
+    passed (decLe total (8 * mapSize l img v)) _ _ (omega arith) e .0,
+  )
+  chain-links met p (n ∷ ns) e =
+      let (a, e₁) = passed (decLt n total) _ _ (omega arith) e in
+      let (b, e₂) = passed (Dec·not (decMem n met)) _ _ (omega arith) e₁ in
+      let (c, e₃) = passed (decMapNode l img n) _ _ (omega arith) e₂ in
+      let (k, h) = chain-links (n ∷ met) n ns e₃ in (
+        record {
+          range = λ x m. ⊎-elim (λ q. rw q a) (k .range x) (List·Memᴰ·cases-cons m);
+          new = λ x m w. ⊎-elim (λ q. b (Memᴰ·cast (sym q) w)) (λ z. k .new x z (List·Memᴰ·tail w)) (List·Memᴰ·cases-cons m);
+          once = (λ m. k .new n m (List·Memᴰ·head refl), k .once);
+          nodes = λ x m. ⊎-elim (λ q. rw q c) (k .nodes x) (List·Memᴰ·cases-cons m);
+        },
+        h,
+      )
+
+  links-chain : (met : List ℕ) (p : ℕ) (ns : List ℕ) → Links met ns → total ≤ 8 * mapSize l img v → chainFrom l img v met p ns ≡ fine
+  unfolding chainFrom
+  links-chain met p [] k h = rw (says-yes (decLe total (8 * mapSize l img v)) h)
+  links-chain met p (n ∷ ns) k h =
+      rw (
+        says-yes (decLt n total) (k .range n (List·Memᴰ·head refl)),
+        says-yes (Dec·not (decMem n met)) (k .new n (List·Memᴰ·head refl)),
+        says-yes (decMapNode l img n) (k .nodes n (List·Memᴰ·head refl)),
+      )
+      (links-chain (n ∷ met) n ns
+      (record {
+        range = λ x m. k .range x (List·Memᴰ·tail m);
+        new = λ x m w. ⊎-elim (λ q. k .once .0 (Memᴰ·cast (sym q) m)) (k .new x (List·Memᴰ·tail m)) (List·Memᴰ·cases-cons w);
+        once = k .once .1;
+        nodes = λ x m. k .nodes x (List·Memᴰ·tail m);
+      })
+      h)
+
+  pub chain-rules : 0 < total → chainFrom l img v [] 0 (mapChain v) .number ≡ 0 → MapChain l img v
+  chain-rules p e =
+      let (k, h) = chain-links [] 0 (mapChain v) e in
+      record {
+        ends = along-ends v total (v .forward 0) 0 refl (chain-few v p (k .once) (k .range));
+        inRange = k .range;
+        once = k .once;
+        nodes = k .nodes;
+        enough = h;
+      }
+
+  pub rules-chain : MapChain l img v → chainFrom l img v [] 0 (mapChain v) ≡ fine
+  rules-chain c = links-chain [] 0 (mapChain v) (record { range = c .inRange; new = λ n m. List·Memᴰ·not-nil; once = c .once; nodes = c .nodes }) (c .enough)

@@ -1,0 +1,13 @@
+pub mod Decisions
+pub mod Lists
+pub mod Pigeon
+pub mod Leaves
+pub mod Paths
+pub mod First
+pub mod Clean
+pub mod Entries
+pub mod TreeRules
+pub mod Answers
+pub mod Chain
+pub mod MapBits
+pub mod Soundness

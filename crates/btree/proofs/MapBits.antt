@@ -1,0 +1,176 @@
+-- Test 9 finds no wrong bit just where the rule of the map bits holds.
+-- Assumes nothing.
+use mathlib.Core.Path.{_≡_, refl, sym, ap, _∙_}
+use mathlib.Core.Logic.{_≢_, _↔_, ⊎-elim}
+use mathlib.Core.Option.{Option, none, some}
+use mathlib.Core.List.{List, [], _∷_, _++_, List·Memᴰ·head, List·Memᴰ·tail, List·Memᴰ·cases-cons, List·Memᴰ·append-cases}
+use Prim.Native.Nat.{ℕ, zero, suc, _+_, _-_, _*_, _/_, _%_, _^_, _≤_, _<_}
+use native.Mathlib.Nat.{mod-lt, zero-div, le-div-iff-mul-le, suc-mul, mul-suc}
+use native.Mathlib.Omega.{arith}
+use native.Mathlib.Decide.{ℕ-discrete, decLt}
+use lib.Dec.{lit<}
+use lib.ListN.{length, getD, take, drop, length-append, length-drop, List·getD-eq-default}
+use lib.Seq.{length-take-le}
+use Rattle.image.specs.Bit.{bitOf}
+use Rattle.btree.specs.Lists.{_∈_, gather}
+use Rattle.btree.specs.Decide.{cond, decMem}
+use Rattle.btree.specs.Layout.{Layout, Fits, headerMapAt, firstRecordAt}
+use Rattle.btree.specs.Tree.{View, below, treeNodes, mapChain, reached, SoundTree}
+use Rattle.btree.specs.Image.{Lengths, HeaderNode, mapSize, MapChain, mapRecord, mapBytes, MapBits}
+use Rattle.btree.specs.Tests.{wrongIn, orSome, lowestWrong, bitFor}
+use Rattle.btree.proofs.Decisions.{cond-yes, cond-no}
+use Rattle.btree.proofs.Lists.{span-mem}
+
+-- the bits of a list of bytes, of its first byte and of the others
+bit-head : (x : ℕ) (xs : List ℕ) (k : ℕ) → k < 8 → bitOf (x ∷ xs) k ≡ x / 2 ^ (7 - k) % 2
+unfolding bitOf
+bit-head x xs k h =
+    let a : k / 8 ≡ 0 = omega arith in
+    let b : k % 8 ≡ k = omega arith in
+    rw (a, b)
+
+pub bit-tail : (x : ℕ) (xs : List ℕ) (k : ℕ) → bitOf (x ∷ xs) (8 + k) ≡ bitOf xs k
+unfolding bitOf
+bit-tail x xs k =
+    let a : (8 + k) / 8 ≡ suc (k / 8) = omega arith in
+    let b : (8 + k) % 8 ≡ k % 8 = omega arith in
+    rw (a, b)
+
+pub bit-small : (bs : List ℕ) (k : ℕ) → bitOf bs k < 2
+unfolding bitOf
+bit-small bs k = mod-lt (getD bs (k / 8) 0 / 2 ^ (7 - k % 8)) (lit< tt)
+
+bit-beyond : (bs : List ℕ) (k : ℕ) → 8 * length bs ≤ k → bitOf bs k ≡ 0
+unfolding bitOf
+bit-beyond bs k h =
+    let e = List·getD-eq-default bs 0 {n = k / 8} (omega arith) in
+    rw e (ap (λ (x : ℕ). x % 2) (zero-div (2 ^ (7 - k % 8))))
+
+module _ (used : ℕ → ℕ) where
+  wrong-none : (x at j c : ℕ) → wrongIn used x at j c ≡ none → (i : ℕ) → j ≤ i → i < j + c → x / 2 ^ (7 - i) % 2 ≡ used (at + i)
+  unfolding wrongIn
+  wrong-none x at j zero e i l u = absurd (omega arith)
+  wrong-none x at j (suc c) e i l u = go (ℕ-discrete (x / 2 ^ (7 - j) % 2) (used (at + j))) e (wrong-none x at (suc j) c) (ℕ-discrete i j)
+    where
+      go : (q : Dec (x / 2 ^ (7 - j) % 2 ≡ used (at + j))) → cond q (wrongIn used x at (suc j) c) (some (at + j)) ≡ none
+          → (wrongIn used x at (suc j) c ≡ none → (i : ℕ) → suc j ≤ i → i < suc j + c → x / 2 ^ (7 - i) % 2 ≡ used (at + i))
+          → Dec (i ≡ j) → x / 2 ^ (7 - i) % 2 ≡ used (at + i)
+      go (yes q) e′ r (yes w) = rw w q
+      go (yes q) e′ r (no nw) = r e′ i (omega arith) (omega arith)
+      go (no nq) e′ r d = absurd (let z : _≡_ {A = ℕ} 0 1 = cc in omega arith)
+
+  none-wrong : (x at j c : ℕ) → ((i : ℕ) → j ≤ i → i < j + c → x / 2 ^ (7 - i) % 2 ≡ used (at + i)) → wrongIn used x at j c ≡ none
+  unfolding wrongIn
+  none-wrong x at j zero h = refl
+  none-wrong x at j (suc c) h = go (ℕ-discrete (x / 2 ^ (7 - j) % 2) (used (at + j))) (none-wrong x at (suc j) c (λ i l u. h i (omega arith) (omega arith)))
+    where
+      go : (q : Dec (x / 2 ^ (7 - j) % 2 ≡ used (at + j))) → wrongIn used x at (suc j) c ≡ none → cond q (wrongIn used x at (suc j) c) (some (at + j)) ≡ none
+      go (yes q) r = r
+      go (no nq) r = absurd (nq (h j (omega arith) (omega arith)))
+
+  or-none : (a b : Option ℕ) → orSome a b ≡ none → (a ≡ none) × (b ≡ none)
+  or-none none b e = (refl, e)
+  or-none (some k) b e = absurd (let z : _≡_ {A = ℕ} 0 1 = cc in omega arith)
+
+  pub lowest-none : (at : ℕ) (bs : List ℕ) → lowestWrong used at bs ≡ none → (k : ℕ) → k < 8 * length bs → bitOf bs k ≡ used (at + k)
+  unfolding lowestWrong
+  lowest-none at [] e k h = absurd (omega arith)
+  lowest-none at (x ∷ xs) e k h =
+      let (a, b) = or-none (wrongIn used x at 0 8) (lowestWrong used (at + 8) xs) e in
+      go a (lowest-none (at + 8) xs b (k - 8)) (decLt k 8)
+    where
+      go : wrongIn used x at 0 8 ≡ none → (k - 8 < 8 * length xs → bitOf xs (k - 8) ≡ used (at + 8 + (k - 8))) → Dec (k < 8) → bitOf (x ∷ xs) k ≡ used (at + k)
+      go a r (yes q) = bit-head x xs k q ∙ wrong-none x at 0 8 a k (omega arith) (omega arith)
+      go a r (no nq) =
+          let e₁ : k ≡ 8 + (k - 8) = omega arith in
+          let e₂ : at + k ≡ at + 8 + (k - 8) = omega arith in
+          ap (bitOf (x ∷ xs)) e₁ ∙ bit-tail x xs (k - 8) ∙ r (omega arith) ∙ ap used (sym e₂)
+
+  pub none-lowest : (at : ℕ) (bs : List ℕ) → ((k : ℕ) → k < 8 * length bs → bitOf bs k ≡ used (at + k)) → lowestWrong used at bs ≡ none
+  unfolding lowestWrong
+  none-lowest at [] h = refl
+  none-lowest at (x ∷ xs) h =
+      rw (none-wrong x at 0 8 (λ i l u. sym (bit-head x xs i (omega arith)) ∙ h i (omega arith)))
+      (none-lowest (at + 8) xs (λ k l.
+      let e : at + (8 + k) ≡ at + 8 + k = omega arith in
+      sym (bit-tail x xs k) ∙ h (8 + k) (omega arith) ∙ ap used e))
+
+module _ (nodes : List ℕ) (k : ℕ) where
+  pub bit-for : k ∈ nodes → bitFor nodes k ≡ 1
+  unfolding bitFor
+  bit-for m = cond-yes (decMem k nodes) 1 0 m
+
+  pub bit-not : (k ∈ nodes → ⊥) → bitFor nodes k ≡ 0
+  unfolding bitFor
+  bit-not f = cond-no (decMem k nodes) 1 0 f
+
+-- every node reached is one of the image's
+pub reached-inRange : (v : View) → 0 < v .total → ((n : ℕ) → n ∈ mapChain v → n < v .total) → SoundTree v → (n : ℕ) → n ∈ reached v → n < v .total
+reached-inRange v p c s n m =
+    ⊎-elim (λ e. rw e p)
+    (λ a. ⊎-elim (c n)
+    (λ b. let (d, l, u, w) = span-mem 0 (v .depth) (λ d. below v d (v .root)) b in s .inRange d n (record { deep = omega arith; among = w }))
+    (List·Memᴰ·append-cases (mapChain v) a))
+    (List·Memᴰ·cases-cons m)
+
+module _ (l : Layout) (fits : Fits l) (img : List ℕ) (v : View) (lengths : Lengths l img) (header : HeaderNode l img v) where
+  open Layout l using (nodeSize, headerMap, nodeMap)
+
+  pub some-nodes : 0 < v .total
+  some-nodes =
+      let a = le-div-iff-mul-le {k = nodeSize} {x = 1} {y = length img} (omega (arith, fits .header)) .1 (let z = lengths .some in omega arith) in
+      rw (header .whole) (omega arith)
+
+  node-inside : (n : ℕ) → n < v .total → n * nodeSize + nodeSize ≤ length img
+  node-inside n h =
+      let a = le-div-iff-mul-le {k = nodeSize} {x = suc n} {y = length img} (omega (arith, fits .header)) .0 (let e = header .whole in omega arith) in
+      let b = suc-mul n nodeSize in omega arith
+
+  part-length : (at n : ℕ) → at + n ≤ length img → length (take n (drop at img)) ≡ n
+  part-length at n h = length-take-le n (drop at img) (rw (length-drop at img) (omega arith))
+
+  records-length : (ns : List ℕ) → ((n : ℕ) → n ∈ ns → n < v .total) → length (gather (mapRecord l img v) ns) ≡ nodeMap * length ns
+  records-length [] h = omega arith
+  records-length (n ∷ ns) h =
+      let a = node-inside n (h n (List·Memᴰ·head refl)) in
+      let b = part-length (n * nodeSize + firstRecordAt) nodeMap (omega (arith, fits .node)) in
+      let c = records-length ns (λ m w. h m (List·Memᴰ·tail w)) in
+      let d = mul-suc nodeMap (length ns) in
+      rw (length-append (mapRecord l img v n) (gather (mapRecord l img v) ns)) (omega arith)
+
+  map-length : MapChain l img v → length (mapBytes l img v) ≡ mapSize l img v
+  unfolding mapBytes
+  map-length chain =
+      let a = part-length headerMapAt headerMap (let z = lengths .some in omega (arith, fits .header)) in
+      let b = records-length (mapChain v) (chain .inRange) in
+      rw (length-append (take headerMap (drop headerMapAt img)) (gather (mapRecord l img v) (mapChain v))) (omega arith)
+
+  module _ (chain : MapChain l img v) (inside : (n : ℕ) → n ∈ reached v → n < v .total) where
+    pub bits-rules : lowestWrong (bitFor (reached v)) 0 (mapBytes l img v) ≡ none → MapBits l img v
+    bits-rules e = record { used = λ n h. uses n h (right n (let a = chain .enough in let b = map-length chain in omega arith)); beyond = λ n h. clear n h (decLt n (8 * length (mapBytes l img v))) }
+      where
+        right : (n : ℕ) → n < 8 * length (mapBytes l img v) → bitOf (mapBytes l img v) n ≡ bitFor (reached v) n
+        right n h = lowest-none (bitFor (reached v)) 0 (mapBytes l img v) e n h ∙ ap (bitFor (reached v)) (omega arith)
+
+        uses : (n : ℕ) → n < v .total → bitOf (mapBytes l img v) n ≡ bitFor (reached v) n → (bitOf (mapBytes l img v) n ≡ 1) ↔ (n ∈ reached v)
+        uses n h q = (λ b. go b (decMem n (reached v)), λ m. q ∙ bit-for (reached v) n m)
+          where
+            go : bitOf (mapBytes l img v) n ≡ 1 → Dec (n ∈ reached v) → n ∈ reached v
+            go b (yes m) = m
+            go b (no nm) = let z = bit-not (reached v) n nm in absurd (omega arith)
+
+        clear : (n : ℕ) → v .total ≤ n → Dec (n < 8 * length (mapBytes l img v)) → bitOf (mapBytes l img v) n ≡ 0
+        clear n h (yes w) = right n w ∙ bit-not (reached v) n (λ m. let k = inside n m in omega arith)
+        clear n h (no nw) = bit-beyond (mapBytes l img v) n (omega arith)
+
+    pub rules-bits : MapBits l img v → lowestWrong (bitFor (reached v)) 0 (mapBytes l img v) ≡ none
+    rules-bits b = none-lowest (bitFor (reached v)) 0 (mapBytes l img v) (λ k h. right k (decLt k (v .total)) (decMem k (reached v)) ∙ ap (bitFor (reached v)) (omega arith))
+      where
+        right : (k : ℕ) → Dec (k < v .total) → Dec (k ∈ reached v) → bitOf (mapBytes l img v) k ≡ bitFor (reached v) k
+        right k (yes h) (yes m) = b .used k h .1 m ∙ sym (bit-for (reached v) k m)
+        right k (yes h) (no nm) = zero-if (λ e. nm (b .used k h .0 e)) ∙ sym (bit-not (reached v) k nm)
+          where
+            zero-if : bitOf (mapBytes l img v) k ≢ 1 → bitOf (mapBytes l img v) k ≡ 0
+            zero-if ne = let z = bit-small (mapBytes l img v) k in omega arith
+        right k (no nh) (yes m) = let z = inside k m in absurd (omega arith)
+        right k (no nh) (no nm) = b .beyond k (omega arith) ∙ sym (bit-not (reached v) k nm)

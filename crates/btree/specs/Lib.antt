@@ -1,0 +1,8 @@
+pub mod Lists
+pub mod Decide
+pub mod Layout
+pub mod Tree
+pub mod Search
+pub mod Image
+pub mod Walk
+pub mod Tests
