@@ -6,3 +6,4 @@ pub mod Search
 pub mod Image
 pub mod Walk
 pub mod Tests
+pub mod Numbers

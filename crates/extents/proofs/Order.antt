@@ -1,0 +1,42 @@
+-- Numeric order of packed keys is key order.
+-- Assumes nothing.
+use mathlib.Core.Path.{_≡_, refl, sym, _∙_}
+use Prim.Native.Nat.{ℕ, _<_}
+use native.Mathlib.Omega.{arith}
+use native.Mathlib.Decide.{decLt}
+use lib.IntN.{ℤ, pos, negsuc}
+use Rattle.btree.specs.Decide.{cond}
+use Rattle.btree.proofs.Decisions.{cond-yes, cond-no}
+use Rattle.extents.specs.Key.{Key, packed, ranked, compared}
+
+pub ranked-below : (a b : ℕ) (x : ℤ) → a < b → ranked a b x ≡ negsuc 0
+ranked-below a b x h = cond-yes (decLt a b) _ _ h
+
+pub ranked-above : (a b : ℕ) (x : ℤ) → b < a → ranked a b x ≡ pos 1
+ranked-above a b x h = cond-no (decLt a b) _ _ (omega arith) ∙ cond-yes (decLt b a) _ _ h
+
+pub ranked-same : (a b : ℕ) (x : ℤ) → a ≡ b → ranked a b x ≡ x
+ranked-same a b x h = cond-no (decLt a b) _ _ (omega arith) ∙ cond-no (decLt b a) _ _ (omega arith)
+
+-- the fields of a key in an image, and of one that is asked for
+pub record InRange (k : Key) : Type 0 where
+  pub fork : k .fork < 256
+  pub start : k .start < 65536
+
+-- by one field: below or above decides, and equal goes on
+by-field : (m n c d : ℕ) (x y : ℤ) → (m < n → c < d) → (n < m → d < c) → (m ≡ n → x ≡ ranked c d y) → ranked m n x ≡ ranked c d y
+by-field m n c d x y lo hi same = go (decLt m n) (decLt n m)
+  where
+    go : Dec (m < n) → Dec (n < m) → ranked m n x ≡ ranked c d y
+    go (yes p) q = ranked-below m n x p ∙ sym (ranked-below c d y (lo p))
+    go (no p) (yes q) = ranked-above m n x q ∙ sym (ranked-above c d y (hi q))
+    go (no p) (no q) = let e : m ≡ n = omega arith in ranked-same m n x e ∙ same e
+
+-- "numeric order is key order"
+pub packed-order : (a b : Key) → InRange a → InRange b → compared a b ≡ ranked (packed a) (packed b) (pos 0)
+unfolding compared packed
+packed-order a b ra rb =
+    by-field (a .file) (b .file) _ _ _ _ (λ h. omega arith) (λ h. omega arith)
+    (λ f. by-field (a .fork) (b .fork) _ _ _ _ (λ h. omega arith) (λ h. omega arith)
+    (λ g. by-field (a .start) (b .start) _ _ _ _ (λ h. omega arith) (λ h. omega arith)
+    (λ e. sym (ranked-same _ _ _ (omega arith)))))

@@ -1,0 +1,18 @@
+-- The verdict on an image names no fault exactly when the image is sound.
+-- Assumes nothing.
+use mathlib.Core.Path.{_≡_}
+use mathlib.Core.Logic.{_↔_}
+use mathlib.Core.List.{List}
+use Prim.Native.Nat.{ℕ}
+use native.Mathlib.Omega.{arith}
+use Rattle.btree.specs.Layout.{Fits}
+use Rattle.btree.specs.Walk.{fine}
+use Rattle.btree.proofs.Soundness as theory
+use Rattle.extents.specs.Format.{layout, view}
+use Rattle.extents.specs.Reader.{Sound, verdict}
+
+fits : Fits layout
+fits = record { header = omega arith; node = omega arith }
+
+pub verdict-iff : (img : List ℕ) → (verdict img ≡ fine) ↔ Sound img
+verdict-iff img = theory.verdict-iff layout fits img (view img)

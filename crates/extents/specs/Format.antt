@@ -1,0 +1,108 @@
+-- The format of an extents overflow file: its sizes, its nodes and what they say.
+-- Assumes nothing.
+use mathlib.Core.Path.{_≡_}
+use mathlib.Core.Logic.{Dec·and}
+use mathlib.Core.List.{List}
+use Prim.Native.Nat.{ℕ, suc, _+_, _-_, _*_, _≤_, _<_}
+use native.Mathlib.Decide.{ℕ-discrete, decLe}
+use lib.ListN.{getD}
+use Rattle.image.specs.Bytes.{be16At, be32At}
+use Rattle.btree.specs.Decide.{cond, map-dec, decAll}
+use Rattle.btree.specs.Layout.{Layout}
+use Rattle.btree.specs.Tree.{View}
+use Rattle.extents.specs.Key.{Key, Lawful, decLawful, packed, keyAt}
+
+-- "Nodes are 512 bytes"; "key length is 7"; "256 bytes, 2,048 bits"; "494 bytes, 3,952 bits"; "1 to 6,000 whole nodes"; "depth is 0 to 8"
+abbrev pub layout : Layout
+layout = record { nodeSize = 512; keyLength = 7; headerMap = 256; nodeMap = 494; maxNodes = 6000; maxDepth = 8 }
+
+-- "Kinds: 00 index, 01 header, 02 map, FF leaf."
+abbrev pub leafKind : ℕ
+leafKind = 255
+
+abbrev pub indexKind : ℕ
+indexKind = 0
+
+-- "Leaf record: key and 12 bytes .. Index record: key and a child's node number (4)."
+unfoldable pub recordSize : ℕ → ℕ
+recordSize kind = cond (ℕ-discrete kind leafKind) 20 12
+
+-- "a leaf holds 1 to 22 and an index node 1 to 35"
+unfoldable pub maxRecords : ℕ → ℕ
+maxRecords kind = cond (ℕ-discrete kind leafKind) 22 35
+
+-- "Leaves are exactly the nodes whose level is the depth."
+unfoldable pub kindOn : ℕ → ℕ → ℕ
+kindOn depth d = cond (ℕ-discrete (d + 1) depth) leafKind indexKind
+
+module _ (img : List ℕ) where
+  unfoldable pub kindOf : ℕ → ℕ
+  kindOf n = getD img (n * 512 + 8) 0
+
+  unfoldable pub countOf : ℕ → ℕ
+  countOf n = be16At img (n * 512 + 10)
+
+  -- "Records lie side by side from 0E"
+  unfoldable pub recordAt : ℕ → ℕ → ℕ
+  recordAt n i = n * 512 + (14 + i * recordSize (kindOf n))
+
+  unfoldable pub keyOf : ℕ → ℕ → ℕ
+  keyOf n i = packed (keyAt img (recordAt n i))
+
+  -- the records of a node of this kind, whatever its level and its links
+  pub record Records (kind n : ℕ) : Type 0 where
+    pub isKind : kindOf n ≡ kind
+    -- "reserved (2, zero)"
+    pub reserved : be16At img (n * 512 + 12) ≡ 0
+    pub some : 1 ≤ countOf n
+    pub few : countOf n ≤ maxRecords kind
+    -- "Record offsets are words from the end of the node backwards"; "There is one offset more than records, and it points to the free space."
+    pub offsets : (i : ℕ) → i < suc (countOf n) → be16At img (n * 512 + (510 - 2 * i)) ≡ 14 + i * recordSize kind
+    -- a key has "length 07, fork (00 data, FF resource)"
+    pub lengths : (i : ℕ) → i < countOf n → getD img (recordAt n i) 0 ≡ 7
+    pub forks : (i : ℕ) → i < countOf n → Lawful (getD img (recordAt n i + 1) 0)
+
+  -- a node on level d, counted from 0, of a tree of this depth: "the root 1, each child one more than its parent"
+  pub record NodeOn (depth n d : ℕ) : Type 0 where
+    pub level : getD img (n * 512 + 9) 0 ≡ d + 1
+    pub records : Records (kindOn depth d) n
+
+  unfoldable pub decRecords : (kind n : ℕ) → Dec (Records kind n)
+  decRecords kind n =
+      map-dec
+      (λ ((((((a, b), c), d), e), f), g). record { isKind = a; reserved = b; some = c; few = d; offsets = e; lengths = f; forks = g })
+      (λ r. ((((((r .isKind, r .reserved), r .some), r .few), r .offsets), r .lengths), r .forks))
+      (Dec·and (Dec·and (Dec·and (Dec·and (Dec·and (Dec·and
+      (ℕ-discrete (kindOf n) kind)
+      (ℕ-discrete (be16At img (n * 512 + 12)) 0))
+      (decLe 1 (countOf n)))
+      (decLe (countOf n) (maxRecords kind)))
+      (decAll (λ i. ℕ-discrete (be16At img (n * 512 + (510 - 2 * i))) (14 + i * recordSize kind)) (suc (countOf n))))
+      (decAll (λ i. ℕ-discrete (getD img (recordAt n i) 0) 7) (countOf n)))
+      (decAll (λ i. decLawful (getD img (recordAt n i + 1) 0)) (countOf n)))
+
+  unfoldable pub decNodeOn : (depth n d : ℕ) → Dec (NodeOn depth n d)
+  decNodeOn depth n d =
+      map-dec (λ (a, b). record { level = a; records = b }) (λ r. (r .level, r .records))
+      (Dec·and (ℕ-discrete (getD img (n * 512 + 9) 0) (d + 1)) (decRecords (kindOn depth d) n))
+
+-- "Record 1 at 0E: depth (2), root (4), leaf records (4), first leaf (4), last leaf (4), node size (2), key length (2), total nodes (4), free nodes (4)";
+-- "Every node starts with 14 bytes: forward link (4), back link (4), kind (1), level (1), record count (2)"
+unfoldable pub view : List ℕ → View
+view img =
+    record {
+      depth = be16At img 14;
+      root = be32At img 16;
+      leafRecords = be32At img 20;
+      firstLeaf = be32At img 24;
+      lastLeaf = be32At img 28;
+      total = be32At img 36;
+      free = be32At img 40;
+      count = countOf img;
+      key = keyOf img;
+      child = λ n i. be32At img (recordAt img n i + 8);
+      forward = λ n. be32At img (n * 512);
+      back = λ n. be32At img (n * 512 + 4);
+      WellFormed = NodeOn img (be16At img 14);
+      decWellFormed = decNodeOn img (be16At img 14);
+    }

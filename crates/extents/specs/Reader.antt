@@ -1,0 +1,71 @@
+-- What is said of an image: whether it is sound, the first fault, its leaf records, what a lookup and what salvage answer.
+-- Assumes nothing.
+use mathlib.Core.Logic.{Dec·and}
+use mathlib.Core.Option.{Option, none, some}
+use mathlib.Core.List.{List}
+use Prim.Native.Nat.{ℕ, zero, suc, _-_, _/_, _<_}
+use native.Mathlib.Omega.{arith}
+use native.Mathlib.Decide.{decLe}
+use lib.ListN.{length}
+use Rattle.btree.specs.declared.Verdict.{Verdict}
+use Rattle.btree.specs.declared.Lookup.{Lookup}
+use Rattle.btree.specs.declared.Salvage.{Salvage}
+use Rattle.btree.specs.declared.Salvage.the-variants.{Seen, NotSeen, Refused}
+use Rattle.btree.specs.Decide.{cond, map-dec}
+use Rattle.btree.specs.Tree.{Rec}
+use Rattle.btree.specs.Search as search
+use Rattle.btree.specs.Image as image
+use Rattle.btree.specs.Walk.{decOrdered}
+use Rattle.btree.specs.Tests as tests
+use Rattle.extents.specs.Key.{Key, packed, decLawful}
+use Rattle.extents.specs.Format.{layout, leafKind, countOf, keyOf, Records, decRecords, view}
+
+abbrev pub Sound : List ℕ → Type 0
+Sound img = image.Sound layout img (view img)
+
+-- the first fault "in the order of tests", as a number of the table and its place
+abbrev pub verdict : List ℕ → Verdict
+verdict img = tests.verdict layout img (view img)
+
+abbrev pub leafRecords : List ℕ → List Rec
+leafRecords img = search.leafList (view img)
+
+abbrev pub searchPath : List ℕ → Key → List ℕ
+searchPath img k = search.pathOf (view img) (packed k)
+
+-- "Lookup and salvage are asked by three numbers: file number, fork byte and start block; no length byte is given."
+abbrev pub asked : ℕ → ℕ → ℕ → Key
+asked file fork start = record { file = file; fork = fork; start = start }
+
+abbrev pub lookup : List ℕ → Key → Lookup
+lookup img k = search.lookupOf (view img) (verdict img) (decLawful (k .fork)) (packed k)
+
+-- "a node counts if it is kind FF, passes the tests of 5 without the level, and its keys strictly ascend"
+pub record WholeLeaf (img : List ℕ) (n : ℕ) : Type 0 where
+  pub records : Records img leafKind n
+  pub ascend : (i : ℕ) → suc i < countOf img n → keyOf img n i < keyOf img n (suc i)
+
+unfoldable pub decWholeLeaf : (img : List ℕ) (n : ℕ) → Dec (WholeLeaf img n)
+unfolding view
+decWholeLeaf img n =
+    map-dec
+    (λ (a, b). record { records = a; ascend = b .rise })
+    (λ w. (w .records, record { rise = w .ascend; within = λ i u. (omega arith, tt) }))
+    (Dec·and (decRecords img leafKind n) (decOrdered (view img) 0 none n))
+
+abbrev pub seenOr : ℕ → Option ℕ → Salvage → Salvage
+seenOr n none r = r
+seenOr n (some i) r = Seen n i
+
+-- the first node from n on, of as many as are left, that counts and has the key k: "The first match is seen"
+unfoldable pub seenFrom : List ℕ → ℕ → ℕ → ℕ → Salvage
+seenFrom img k n zero = NotSeen
+seenFrom img k n (suc left) =
+    seenOr n (cond (decWholeLeaf img n) (search.recordWith (view img) n k 0 (countOf img n)) none) (seenFrom img k (suc n) left)
+
+-- "Salvage tests 11, then length: more than 3,072,000 bytes is 1; any other length is taken, and a broken last node is ignored. From node 1 up"
+unfoldable pub salvage : List ℕ → Key → Salvage
+salvage img k =
+    cond (decLawful (k .fork))
+    (cond (decLe (length img) 3072000) (seenFrom img (packed k) 1 (length img / 512 - 1)) (Refused 1 0))
+    (Refused 11 0)

@@ -1,0 +1,1 @@
+// The extents overflow file of an HFS volume.

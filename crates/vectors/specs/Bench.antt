@@ -1,0 +1,78 @@
+-- The images on the bench that are marked *: an image, a question about it, and the paper's answer.
+-- Assumes nothing.
+use mathlib.Core.Path.{_≡_}
+use mathlib.Core.List.{List, [], _∷_}
+use Prim.Native.Nat.{ℕ}
+use lib.IntN.{ℤ, pos, negsuc}
+use lib.ListN.{length, replicate, set, take}
+use Rattle.btree.specs.Walk.{fails}
+use Rattle.btree.specs.declared.Lookup.{Lookup}
+use Rattle.btree.specs.declared.Verdict.{Verdict}
+use Rattle.btree.specs.Numbers.{Reply, lookupReply}
+use Rattle.extents.specs.Key.{Key, Lawful, packed, compared}
+use Rattle.extents.specs.Reader.{asked, verdict, lookup}
+use Rattle.vectors.specs.Build.{E1, L1, put}
+
+-- the numbers of a reply and of the search path beside it
+abbrev pub numbersOf : Lookup → List ℕ
+numbersOf r = lookupReply (r .answer) .number ∷ lookupReply (r .answer) .place ∷ lookupReply (r .answer) .entry ∷ r .path .len ∷ r .path .nodes
+
+-- a question about an image, and what the paper says to it
+pub data Asks : Type 0 where
+  -- the check: number and place
+  check : ℕ → ℕ → Asks
+  -- a lookup of one key: number, place, record, length of the path, its eight places
+  look : Key → List ℕ → Asks
+  -- a lookup of any key with a lawful fork byte
+  lookAny : List ℕ → Asks
+  -- a key's packed number, and how it compares with another; of no image
+  packs : Key → ℕ → Asks
+  compares : Key → Key → ℤ → Asks
+
+pub record Case : Type 0 where
+  pub image : List ℕ
+  pub asks : Asks
+
+abbrev pub Says : List ℕ → Asks → Type 0
+Says img (check number place) = verdict img ≡ fails number place
+Says img (look k numbers) = numbersOf (lookup img k) ≡ numbers
+Says img (lookAny numbers) = (file fork start : ℕ) → Lawful fork → numbersOf (lookup img (asked file fork start)) ≡ numbers
+Says img (packs k n) = packed k ≡ n
+Says img (compares a b z) = compared a b ≡ z
+
+abbrev pub Right : Case → Type 0
+Right c = Says (c .image) (c .asks)
+
+abbrev pub All : (Case → Type 0) → List Case → Type 0
+All P [] = Unit {0}
+All P (c ∷ cs) = P c × All P cs
+
+abbrev of : List ℕ → Asks → Case
+of img q = record { image = img; asks = q }
+
+abbrev pub bench : List Case
+bench =
+    -- "Length 0, 511: 1."
+    of [] (check 1 0) ∷
+    of (replicate 511 0) (check 1 0) ∷
+    -- "E1 ..: 0. Any good key: 12, place 0, road length 0."
+    of E1 (check 0 0) ∷
+    of E1 (lookAny (12 ∷ 0 ∷ 0 ∷ 0 ∷ 0 ∷ 0 ∷ 0 ∷ 0 ∷ 0 ∷ 0 ∷ 0 ∷ 0 ∷ [])) ∷
+    -- "E1 with map byte 00: 9 place 0; with C0: 9 place 1. E1 with free 1: 10."
+    of (set E1 248 0x00) (check 9 0) ∷
+    of (set E1 248 0xC0) (check 9 1) ∷
+    of (set E1 43 1) (check 10 0) ∷
+    -- "L1 .. Sound. Key (16, 00, 5): found at node 1 record 0, road 1. Key (16, FF, 5): 12 place 1. Fork 01: 11."
+    of L1 (check 0 0) ∷
+    of L1 (look (asked 16 0x00 5) (0 ∷ 1 ∷ 0 ∷ 1 ∷ 1 ∷ 0 ∷ 0 ∷ 0 ∷ 0 ∷ 0 ∷ 0 ∷ 0 ∷ [])) ∷
+    of L1 (look (asked 16 0xFF 5) (12 ∷ 1 ∷ 0 ∷ 1 ∷ 1 ∷ 0 ∷ 0 ∷ 0 ∷ 0 ∷ 0 ∷ 0 ∷ 0 ∷ [])) ∷
+    of L1 (look (asked 16 0x01 5) (11 ∷ 0 ∷ 0 ∷ 0 ∷ 0 ∷ 0 ∷ 0 ∷ 0 ∷ 0 ∷ 0 ∷ 0 ∷ 0 ∷ [])) ∷
+    -- "L1 with node 1's back link 1: 7 place 1."
+    of (set L1 519 1) (check 7 1) ∷
+    -- "Order: (16, 00, 9) below (16, FF, 0) below (17, 00, 0); packed 268,435,465, 285,147,136, 285,212,672."
+    of [] (compares (asked 16 0x00 9) (asked 16 0xFF 0) (negsuc 0)) ∷
+    of [] (compares (asked 16 0xFF 0) (asked 17 0x00 0) (negsuc 0)) ∷
+    of [] (packs (asked 16 0x00 9) 268435465) ∷
+    of [] (packs (asked 16 0xFF 0) 285147136) ∷
+    of [] (packs (asked 17 0x00 0) 285212672) ∷
+    []
