@@ -7,10 +7,10 @@ use Prim.Native.Nat.{ℕ, zero, suc, _*_, _≤_, _<_}
 use native.Mathlib.Omega.{arith}
 use native.Mathlib.Decide.{decLe, decLt}
 use lib.ListN.{length}
-use Rattle.btree.specs.Lists.{_∈_, lastOr, Distinct}
+use Rattle.btree.specs.Lists.{_∈_, lastOr, Distinct, along}
 use Rattle.btree.specs.Decide.{decMem}
 use Rattle.btree.specs.Layout.{Layout}
-use Rattle.btree.specs.Tree.{View, along, mapChain}
+use Rattle.btree.specs.Header.{totalOf, forwardOf, mapNodes}
 use Rattle.btree.specs.Image.{MapNode, mapSize, MapChain}
 use Rattle.btree.specs.Walk.{fine}
 use Rattle.btree.specs.Tests.{decMapNode, chainFrom}
@@ -18,48 +18,44 @@ use Rattle.btree.proofs.Pigeon.{pigeon}
 use Rattle.btree.proofs.Decisions.{says-yes}
 use Rattle.btree.proofs.Clean.{passed}
 
-module _ (v : View) where
-  open View v using (total, forward)
-
-  along-nonzero : (f n x : ℕ) → x ∈ along v f n → 0 < x
+module _ (link : ℕ → ℕ) where
+  along-nonzero : (f n x : ℕ) → x ∈ along link f n → 0 < x
   along-nonzero zero n x m = absurd (List·Memᴰ·not-nil m)
   along-nonzero (suc f) zero x m = absurd (List·Memᴰ·not-nil m)
-  along-nonzero (suc f) (suc n) x m = ⊎-elim (λ e. omega arith) (along-nonzero f (forward (suc n)) x) (List·Memᴰ·cases-cons m)
-
-  -- the chain's nodes are not the header
-  pub chain-nonzero : (n : ℕ) → n ∈ mapChain v → 0 < n
-  chain-nonzero = along-nonzero total (forward 0)
+  along-nonzero (suc f) (suc n) x m = ⊎-elim (λ e. omega arith) (along-nonzero f (link (suc n)) x) (List·Memᴰ·cases-cons m)
 
   -- fewer links than were allowed: the last one is 0
-  along-ends : (f n p : ℕ) → forward p ≡ n → length (along v f n) < f → forward (lastOr p (along v f n)) ≡ 0
+  along-ends : (f n p : ℕ) → link p ≡ n → length (along link f n) < f → link (lastOr p (along link f n)) ≡ 0
   along-ends zero n p e l = absurd (omega arith)
   along-ends (suc f) zero p e l = e
-  along-ends (suc f) (suc n) p e l = along-ends f (forward (suc n)) (suc n) refl (omega arith)
+  along-ends (suc f) (suc n) p e l = along-ends f (link (suc n)) (suc n) refl (omega arith)
 
-  chain-few : 0 < total → Distinct (mapChain v) → ((n : ℕ) → n ∈ mapChain v → n < total) → length (mapChain v) < total
+module _ (l : Layout) (img : List ℕ) where
+  -- the chain's nodes are not the header
+  pub chain-nonzero : (n : ℕ) → n ∈ mapNodes l img → 0 < n
+  chain-nonzero = along-nonzero (forwardOf l img) (totalOf img) (forwardOf l img 0)
+
+  chain-few : 0 < totalOf img → Distinct (mapNodes l img) → ((n : ℕ) → n ∈ mapNodes l img → n < totalOf img) → length (mapNodes l img) < totalOf img
   chain-few p d h =
-      pigeon total (0 ∷ mapChain v)
+      pigeon (totalOf img) (0 ∷ mapNodes l img)
       (λ m. let k = chain-nonzero 0 m in omega arith, d)
       (λ n m. ⊎-elim (λ e. rw e p) (h n) (List·Memᴰ·cases-cons m))
 
-module _ (l : Layout) (img : List ℕ) (v : View) where
-  open View v using (total)
-
   -- what the test asks of the links ns, after the map nodes met
   pub record Links (met ns : List ℕ) : Type 0 where
-    pub range : (n : ℕ) → n ∈ ns → n < total
+    pub range : (n : ℕ) → n ∈ ns → n < totalOf img
     pub new : (n : ℕ) → n ∈ ns → n ∈ met → ⊥
     pub once : Distinct ns
     pub nodes : (n : ℕ) → n ∈ ns → MapNode l img n
 
-  chain-links : (met : List ℕ) (p : ℕ) (ns : List ℕ) → chainFrom l img v met p ns .number ≡ 0 → Links met ns × (total ≤ 8 * mapSize l img v)
+  chain-links : (met : List ℕ) (p : ℕ) (ns : List ℕ) → chainFrom l img met p ns .number ≡ 0 → Links met ns × (totalOf img ≤ 8 * mapSize l img)
   unfolding chainFrom
   chain-links met p [] e = (
     record { range = λ n m. absurd (List·Memᴰ·not-nil m); new = λ n m. absurd (List·Memᴰ·not-nil m); once = tt; nodes = λ n m. absurd (List·Memᴰ·not-nil m) },
-    passed (decLe total (8 * mapSize l img v)) _ _ (omega arith) e .0,
+    passed (decLe (totalOf img) (8 * mapSize l img)) _ _ (omega arith) e .0,
   )
   chain-links met p (n ∷ ns) e =
-      let (a, e₁) = passed (decLt n total) _ _ (omega arith) e in
+      let (a, e₁) = passed (decLt n (totalOf img)) _ _ (omega arith) e in
       let (b, e₂) = passed (Dec·not (decMem n met)) _ _ (omega arith) e₁ in
       let (c, e₃) = passed (decMapNode l img n) _ _ (omega arith) e₂ in
       let (k, h) = chain-links (n ∷ met) n ns e₃ in (
@@ -72,12 +68,12 @@ module _ (l : Layout) (img : List ℕ) (v : View) where
         h,
       )
 
-  links-chain : (met : List ℕ) (p : ℕ) (ns : List ℕ) → Links met ns → total ≤ 8 * mapSize l img v → chainFrom l img v met p ns ≡ fine
+  links-chain : (met : List ℕ) (p : ℕ) (ns : List ℕ) → Links met ns → totalOf img ≤ 8 * mapSize l img → chainFrom l img met p ns ≡ fine
   unfolding chainFrom
-  links-chain met p [] k h = rw (says-yes (decLe total (8 * mapSize l img v)) h)
+  links-chain met p [] k h = rw (says-yes (decLe (totalOf img) (8 * mapSize l img)) h)
   links-chain met p (n ∷ ns) k h =
       rw (
-        says-yes (decLt n total) (k .range n (List·Memᴰ·head refl)),
+        says-yes (decLt n (totalOf img)) (k .range n (List·Memᴰ·head refl)),
         says-yes (Dec·not (decMem n met)) (k .new n (List·Memᴰ·head refl)),
         says-yes (decMapNode l img n) (k .nodes n (List·Memᴰ·head refl)),
       )
@@ -90,16 +86,16 @@ module _ (l : Layout) (img : List ℕ) (v : View) where
       })
       h)
 
-  pub chain-rules : 0 < total → chainFrom l img v [] 0 (mapChain v) .number ≡ 0 → MapChain l img v
+  pub chain-rules : 0 < totalOf img → chainFrom l img [] 0 (mapNodes l img) .number ≡ 0 → MapChain l img
   chain-rules p e =
-      let (k, h) = chain-links [] 0 (mapChain v) e in
+      let (k, h) = chain-links [] 0 (mapNodes l img) e in
       record {
-        ends = along-ends v total (v .forward 0) 0 refl (chain-few v p (k .once) (k .range));
+        ends = along-ends (forwardOf l img) (totalOf img) (forwardOf l img 0) 0 refl (chain-few p (k .once) (k .range));
         inRange = k .range;
         once = k .once;
         nodes = k .nodes;
         enough = h;
       }
 
-  pub rules-chain : MapChain l img v → chainFrom l img v [] 0 (mapChain v) ≡ fine
-  rules-chain c = links-chain [] 0 (mapChain v) (record { range = c .inRange; new = λ n m. List·Memᴰ·not-nil; once = c .once; nodes = c .nodes }) (c .enough)
+  pub rules-chain : MapChain l img → chainFrom l img [] 0 (mapNodes l img) ≡ fine
+  rules-chain c = links-chain [] 0 (mapNodes l img) (record { range = c .inRange; new = λ n m. List·Memᴰ·not-nil; once = c .once; nodes = c .nodes }) (c .enough)

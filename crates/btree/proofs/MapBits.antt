@@ -15,7 +15,8 @@ use Rattle.image.specs.Bit.{bitOf}
 use Rattle.btree.specs.Lists.{_∈_, gather}
 use Rattle.btree.specs.Decide.{cond, decMem}
 use Rattle.btree.specs.Layout.{Layout, Fits, headerMapAt, firstRecordAt}
-use Rattle.btree.specs.Tree.{View, below, treeNodes, mapChain, reached, SoundTree}
+use Rattle.btree.specs.Tree.{View, below, mapChain, reached, SoundTree}
+use Rattle.btree.specs.Header.{totalOf, mapNodes}
 use Rattle.btree.specs.Image.{Lengths, HeaderNode, mapSize, MapChain, mapRecord, mapBytes, MapBits}
 use Rattle.btree.specs.Tests.{wrongIn, orSome, lowestWrong, bitFor}
 use Rattle.btree.proofs.Decisions.{cond-yes, cond-no}
@@ -113,15 +114,15 @@ reached-inRange v p c s n m =
     (List·Memᴰ·append-cases (mapChain v) a))
     (List·Memᴰ·cases-cons m)
 
-module _ (l : Layout) (fits : Fits l) (img : List ℕ) (v : View) (lengths : Lengths l img) (header : HeaderNode l img v) where
+module _ (l : Layout) (fits : Fits l) (img : List ℕ) (lengths : Lengths l img) (header : HeaderNode l img) where
   open Layout l using (nodeSize, headerMap, nodeMap)
 
-  pub some-nodes : 0 < v .total
+  pub some-nodes : 0 < totalOf img
   some-nodes =
       let a = le-div-iff-mul-le {k = nodeSize} {x = 1} {y = length img} (omega (arith, fits .header)) .1 (let z = lengths .some in omega arith) in
       rw (header .whole) (omega arith)
 
-  node-inside : (n : ℕ) → n < v .total → n * nodeSize + nodeSize ≤ length img
+  pub node-inside : (n : ℕ) → n < totalOf img → n * nodeSize + nodeSize ≤ length img
   node-inside n h =
       let a = le-div-iff-mul-le {k = nodeSize} {x = suc n} {y = length img} (omega (arith, fits .header)) .0 (let e = header .whole in omega arith) in
       let b = suc-mul n nodeSize in omega arith
@@ -129,48 +130,52 @@ module _ (l : Layout) (fits : Fits l) (img : List ℕ) (v : View) (lengths : Len
   part-length : (at n : ℕ) → at + n ≤ length img → length (take n (drop at img)) ≡ n
   part-length at n h = length-take-le n (drop at img) (rw (length-drop at img) (omega arith))
 
-  records-length : (ns : List ℕ) → ((n : ℕ) → n ∈ ns → n < v .total) → length (gather (mapRecord l img v) ns) ≡ nodeMap * length ns
+  records-length : (ns : List ℕ) → ((n : ℕ) → n ∈ ns → n < totalOf img) → length (gather (mapRecord l img) ns) ≡ nodeMap * length ns
   records-length [] h = omega arith
   records-length (n ∷ ns) h =
       let a = node-inside n (h n (List·Memᴰ·head refl)) in
       let b = part-length (n * nodeSize + firstRecordAt) nodeMap (omega (arith, fits .node)) in
       let c = records-length ns (λ m w. h m (List·Memᴰ·tail w)) in
       let d = mul-suc nodeMap (length ns) in
-      rw (length-append (mapRecord l img v n) (gather (mapRecord l img v) ns)) (omega arith)
+      rw (length-append (mapRecord l img n) (gather (mapRecord l img) ns)) (omega arith)
 
-  map-length : MapChain l img v → length (mapBytes l img v) ≡ mapSize l img v
+  map-length : MapChain l img → length (mapBytes l img) ≡ mapSize l img
   unfolding mapBytes
   map-length chain =
       let a = part-length headerMapAt headerMap (let z = lengths .some in omega (arith, fits .header)) in
-      let b = records-length (mapChain v) (chain .inRange) in
-      rw (length-append (take headerMap (drop headerMapAt img)) (gather (mapRecord l img v) (mapChain v))) (omega arith)
+      let b = records-length (mapNodes l img) (chain .inRange) in
+      rw (length-append (take headerMap (drop headerMapAt img)) (gather (mapRecord l img) (mapNodes l img))) (omega arith)
 
-  module _ (chain : MapChain l img v) (inside : (n : ℕ) → n ∈ reached v → n < v .total) where
-    pub bits-rules : lowestWrong (bitFor (reached v)) 0 (mapBytes l img v) ≡ none → MapBits l img v
-    bits-rules e = record { used = λ n h. uses n h (right n (let a = chain .enough in let b = map-length chain in omega arith)); beyond = λ n h. clear n h (decLt n (8 * length (mapBytes l img v))) }
+  module _ (chain : MapChain l img) (nodes : List ℕ) (inside : (n : ℕ) → n ∈ nodes → n < totalOf img) where
+    pub bits-rules : lowestWrong (bitFor nodes) 0 (mapBytes l img) ≡ none → MapBits l img nodes
+    bits-rules e =
+        record {
+          used = λ n h. uses n (right n (let a = chain .enough in let b = map-length chain in omega arith));
+          beyond = λ n h. clear n h (decLt n (8 * length (mapBytes l img)));
+        }
       where
-        right : (n : ℕ) → n < 8 * length (mapBytes l img v) → bitOf (mapBytes l img v) n ≡ bitFor (reached v) n
-        right n h = lowest-none (bitFor (reached v)) 0 (mapBytes l img v) e n h ∙ ap (bitFor (reached v)) (omega arith)
+        right : (n : ℕ) → n < 8 * length (mapBytes l img) → bitOf (mapBytes l img) n ≡ bitFor nodes n
+        right n h = lowest-none (bitFor nodes) 0 (mapBytes l img) e n h ∙ ap (bitFor nodes) (omega arith)
 
-        uses : (n : ℕ) → n < v .total → bitOf (mapBytes l img v) n ≡ bitFor (reached v) n → (bitOf (mapBytes l img v) n ≡ 1) ↔ (n ∈ reached v)
-        uses n h q = (λ b. go b (decMem n (reached v)), λ m. q ∙ bit-for (reached v) n m)
+        uses : (n : ℕ) → bitOf (mapBytes l img) n ≡ bitFor nodes n → (bitOf (mapBytes l img) n ≡ 1) ↔ (n ∈ nodes)
+        uses n q = (λ b. go b (decMem n nodes), λ m. q ∙ bit-for nodes n m)
           where
-            go : bitOf (mapBytes l img v) n ≡ 1 → Dec (n ∈ reached v) → n ∈ reached v
+            go : bitOf (mapBytes l img) n ≡ 1 → Dec (n ∈ nodes) → n ∈ nodes
             go b (yes m) = m
-            go b (no nm) = let z = bit-not (reached v) n nm in absurd (omega arith)
+            go b (no nm) = let z = bit-not nodes n nm in absurd (omega arith)
 
-        clear : (n : ℕ) → v .total ≤ n → Dec (n < 8 * length (mapBytes l img v)) → bitOf (mapBytes l img v) n ≡ 0
-        clear n h (yes w) = right n w ∙ bit-not (reached v) n (λ m. let k = inside n m in omega arith)
-        clear n h (no nw) = bit-beyond (mapBytes l img v) n (omega arith)
+        clear : (n : ℕ) → totalOf img ≤ n → Dec (n < 8 * length (mapBytes l img)) → bitOf (mapBytes l img) n ≡ 0
+        clear n h (yes w) = right n w ∙ bit-not nodes n (λ m. let k = inside n m in omega arith)
+        clear n h (no nw) = bit-beyond (mapBytes l img) n (omega arith)
 
-    pub rules-bits : MapBits l img v → lowestWrong (bitFor (reached v)) 0 (mapBytes l img v) ≡ none
-    rules-bits b = none-lowest (bitFor (reached v)) 0 (mapBytes l img v) (λ k h. right k (decLt k (v .total)) (decMem k (reached v)) ∙ ap (bitFor (reached v)) (omega arith))
+    pub rules-bits : MapBits l img nodes → lowestWrong (bitFor nodes) 0 (mapBytes l img) ≡ none
+    rules-bits b = none-lowest (bitFor nodes) 0 (mapBytes l img) (λ k h. right k (decLt k (totalOf img)) (decMem k nodes) ∙ ap (bitFor nodes) (omega arith))
       where
-        right : (k : ℕ) → Dec (k < v .total) → Dec (k ∈ reached v) → bitOf (mapBytes l img v) k ≡ bitFor (reached v) k
-        right k (yes h) (yes m) = b .used k h .1 m ∙ sym (bit-for (reached v) k m)
-        right k (yes h) (no nm) = zero-if (λ e. nm (b .used k h .0 e)) ∙ sym (bit-not (reached v) k nm)
+        right : (k : ℕ) → Dec (k < totalOf img) → Dec (k ∈ nodes) → bitOf (mapBytes l img) k ≡ bitFor nodes k
+        right k (yes h) (yes m) = b .used k h .1 m ∙ sym (bit-for nodes k m)
+        right k (yes h) (no nm) = zero-if (λ e. nm (b .used k h .0 e)) ∙ sym (bit-not nodes k nm)
           where
-            zero-if : bitOf (mapBytes l img v) k ≢ 1 → bitOf (mapBytes l img v) k ≡ 0
-            zero-if ne = let z = bit-small (mapBytes l img v) k in omega arith
+            zero-if : bitOf (mapBytes l img) k ≢ 1 → bitOf (mapBytes l img) k ≡ 0
+            zero-if ne = let z = bit-small (mapBytes l img) k in omega arith
         right k (no nh) (yes m) = let z = inside k m in absurd (omega arith)
-        right k (no nh) (no nm) = b .beyond k (omega arith) ∙ sym (bit-not (reached v) k nm)
+        right k (no nh) (no nm) = b .beyond k (omega arith) ∙ sym (bit-not nodes k nm)

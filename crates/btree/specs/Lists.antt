@@ -41,3 +41,9 @@ padded (suc n) (x ∷ xs) = x ∷ padded n xs
 abbrev pub fromOption : {A B : Type 0} → Option A → (A → List B) → List B
 fromOption none f = []
 fromOption (some a) f = f a
+
+-- the nodes along the links from n on, at most f of them; link 0 is none
+abbrev pub along : (ℕ → ℕ) → ℕ → ℕ → List ℕ
+along link zero n = []
+along link (suc f) zero = []
+along link (suc f) (suc n) = suc n ∷ along link f (link (suc n))

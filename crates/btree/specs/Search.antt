@@ -11,12 +11,12 @@ use Rattle.btree.specs.declared.Answer.the-variants.{Found, Absent, Refu
 use Rattle.btree.specs.declared.Path.{Path}
 use Rattle.btree.specs.declared.Lookup.{Lookup}
 use Rattle.btree.specs.declared.Verdict.{Verdict}
-use Rattle.btree.specs.Lists.{_∈_, span, gather, padded, fromOption}
+use Rattle.btree.specs.Lists.{_∈_, span, gather, padded, fromOption, along}
 use Rattle.btree.specs.Decide.{cond}
-use Rattle.btree.specs.Tree.{View, Rec, along}
+use Rattle.btree.specs.Tree.{View, Rec}
 
 module _ (v : View) where
-  open View v using (depth, root, firstLeaf, total, count, child)
+  open View v using (depth, root, firstLeaf, total, count, child, forward)
 
   abbrev pub recordsOf : ℕ → List Rec
   recordsOf n = span 0 (count n) (λ i. (record { node = n; at = i; key = v .key n i }) ∷ [])
@@ -24,7 +24,7 @@ module _ (v : View) where
   -- the paper's leaf list: "starts at the header's first leaf; 0 there means an empty list", "takes that node's records in order",
   -- "goes on at the node's forward link and ends at link 0"
   abbrev pub leafList : List Rec
-  leafList = gather recordsOf (along v total firstLeaf)
+  leafList = gather recordsOf (along forward total firstLeaf)
 
   -- record i of the node n has "the highest key not above the asked one"
   pub record Highest (n k i : ℕ) : Type 0 where

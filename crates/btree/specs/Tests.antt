@@ -11,7 +11,8 @@ use Rattle.image.specs.Bytes.{be16At, be32At}
 use Rattle.btree.specs.declared.Verdict.{Verdict}
 use Rattle.btree.specs.Decide.{cond, says, map-dec, decImp, decMem}
 use Rattle.btree.specs.Layout.{Layout, headerMapAt, firstRecordAt}
-use Rattle.btree.specs.Tree.{View, mapChain, reached}
+use Rattle.btree.specs.Tree.{reached}
+use Rattle.btree.specs.Header.{Format, depthOf, rootOf, leafRecordsOf, firstLeafOf, lastLeafOf, sizeOf, keyLengthOf, totalOf, freeOf, mapNodes, viewOf}
 use Rattle.btree.specs.Image.{Descriptor, NoTree, Lengths, MapNode, HeaderNode, mapSize, mapBytes}
 use Rattle.btree.specs.Walk.{fine, fails, unless, orElse, walk}
 
@@ -27,16 +28,16 @@ decDescriptor img at kind records =
     (ℕ-discrete (be16At img (at + 10)) records))
     (ℕ-discrete (be16At img (at + 12)) 0))
 
-unfoldable pub decNoTree : (v : View) → Dec (NoTree v)
-decNoTree v =
+unfoldable pub decNoTree : (img : List ℕ) → Dec (NoTree img)
+decNoTree img =
     map-dec
     (λ (((a, b), c), d). record { root = a; leafRecords = b; firstLeaf = c; lastLeaf = d })
     (λ s. (((s .root, s .leafRecords), s .firstLeaf), s .lastLeaf))
     (Dec·and (Dec·and (Dec·and
-    (ℕ-discrete (v .root) 0)
-    (ℕ-discrete (v .leafRecords) 0))
-    (ℕ-discrete (v .firstLeaf) 0))
-    (ℕ-discrete (v .lastLeaf) 0))
+    (ℕ-discrete (rootOf img) 0)
+    (ℕ-discrete (leafRecordsOf img) 0))
+    (ℕ-discrete (firstLeafOf img) 0))
+    (ℕ-discrete (lastLeafOf img) 0))
 
 -- The lowest wrong bit of the map: `used` says 1 or 0 of each node.
 -- of the bits of the byte x that stand j places and more from its top, c of them, where the byte's first bit is that of the node at
@@ -84,48 +85,46 @@ module _ (l : Layout) (img : List ℕ) where
       (ℕ-discrete (be16At img (n * nodeSize + (nodeSize - 4))) (firstRecordAt + nodeMap)))
       (ℕ-discrete (be16At img (n * nodeSize + (nodeSize - 2))) firstRecordAt))
 
-  module _ (v : View) where
-    open View v using (depth, total, free, forward)
+  unfoldable pub decHeaderNode : Dec (HeaderNode l img)
+  decHeaderNode =
+      map-dec
+      (λ (((((((((a, b), c), d), e), f), g), h), i), j).
+      record { start = a; freeAt = b; mapAt = c; secondAt = d; recordAt = e; size = f; key = g; whole = h; levels = i; noTree = j })
+      (λ s. (((((((((s .start, s .freeAt), s .mapAt), s .secondAt), s .recordAt), s .size), s .key), s .whole), s .levels), s .noTree))
+      (Dec·and (Dec·and (Dec·and (Dec·and (Dec·and (Dec·and (Dec·and (Dec·and (Dec·and
+      (decDescriptor img 0 1 3)
+      (ℕ-discrete (be16At img (nodeSize - 8)) (headerMapAt + headerMap)))
+      (ℕ-discrete (be16At img (nodeSize - 6)) headerMapAt))
+      (ℕ-discrete (be16At img (nodeSize - 4)) 120))
+      (ℕ-discrete (be16At img (nodeSize - 2)) firstRecordAt))
+      (ℕ-discrete (sizeOf img) nodeSize))
+      (ℕ-discrete (keyLengthOf img) keyLength))
+      (ℕ-discrete (totalOf img) (length img / nodeSize)))
+      (decLe (depthOf img) maxDepth))
+      (decImp (ℕ-discrete (depthOf img) 0) (decNoTree img)))
 
-    unfoldable pub decHeaderNode : Dec (HeaderNode l img v)
-    decHeaderNode =
-        map-dec
-        (λ (((((((((a, b), c), d), e), f), g), h), i), j).
-            record { start = a; freeAt = b; mapAt = c; secondAt = d; recordAt = e; size = f; key = g; whole = h; levels = i; noTree = j })
-        (λ s. (((((((((s .start, s .freeAt), s .mapAt), s .secondAt), s .recordAt), s .size), s .key), s .whole), s .levels), s .noTree))
-        (Dec·and (Dec·and (Dec·and (Dec·and (Dec·and (Dec·and (Dec·and (Dec·and (Dec·and
-        (decDescriptor img 0 1 3)
-        (ℕ-discrete (be16At img (nodeSize - 8)) (headerMapAt + headerMap)))
-        (ℕ-discrete (be16At img (nodeSize - 6)) headerMapAt))
-        (ℕ-discrete (be16At img (nodeSize - 4)) 120))
-        (ℕ-discrete (be16At img (nodeSize - 2)) firstRecordAt))
-        (ℕ-discrete (be16At img 32) nodeSize))
-        (ℕ-discrete (be16At img 34) keyLength))
-        (ℕ-discrete total (length img / nodeSize)))
-        (decLe depth maxDepth))
-        (decImp (ℕ-discrete depth 0) (decNoTree v)))
+  -- test 3, along the links ns of the chain, where p has the first of them and `met` are the map nodes before it: "for a link out of range or to a
+  -- node already in the chain, the node that has the link"; else "the node at fault"; "for too few bits, the last node of the chain"
+  unfoldable pub chainFrom : List ℕ → ℕ → List ℕ → Verdict
+  chainFrom met p [] = unless (says (decLe (totalOf img) (8 * mapSize l img))) (fails 3 p) fine
+  chainFrom met p (n ∷ ns) =
+      unless (says (decLt n (totalOf img))) (fails 3 p)
+      (unless (says (Dec·not (decMem n met))) (fails 3 p)
+      (unless (says (decMapNode n)) (fails 3 n)
+      (chainFrom (n ∷ met) n ns)))
 
-    -- test 3, along the links ns of the chain, where p has the first of them and `met` are the map nodes before it: "for a link out of range or to a
-    -- node already in the chain, the node that has the link"; else "the node at fault"; "for too few bits, the last node of the chain"
-    unfoldable pub chainFrom : List ℕ → ℕ → List ℕ → Verdict
-    chainFrom met p [] = unless (says (decLe total (8 * mapSize l img v))) (fails 3 p) fine
-    chainFrom met p (n ∷ ns) =
-        unless (says (decLt n total)) (fails 3 p)
-        (unless (says (Dec·not (decMem n met))) (fails 3 p)
-        (unless (says (decMapNode n)) (fails 3 n)
-        (chainFrom (n ∷ met) n ns)))
+  -- tests 9, "the lowest wrong bit", and 10, where these nodes are reached from the header
+  unfoldable pub mapTests : List ℕ → Verdict
+  mapTests nodes =
+      failsAt 9 (lowestWrong (bitFor nodes) 0 (mapBytes l img))
+      (unless (says (ℕ-discrete (length nodes + freeOf img) (totalOf img))) (fails 10 0) fine)
 
-    -- tests 9, "the lowest wrong bit", and 10
-    unfoldable pub mapTests : Verdict
-    mapTests =
-        failsAt 9 (lowestWrong (bitFor (reached v)) 0 (mapBytes l img v))
-        (unless (says (ℕ-discrete (length (reached v) + free) total)) (fails 10 0) fine)
-
+  module _ (f : Format) where
     -- "Order of tests: 1, 2, 3; then the tree ..; then 8, 9, 10. The first fault is the answer."
     unfoldable pub verdict : Verdict
     verdict =
         unless (says decLengths) (fails 1 0)
         (unless (says decHeaderNode) (fails 2 0)
-        (orElse (chainFrom [] 0 (mapChain v))
-        (orElse (walk v)
-        mapTests)))
+        (orElse (chainFrom [] 0 (mapNodes l img))
+        (orElse (walk (viewOf l f img))
+        (mapTests (reached (viewOf l f img))))))

@@ -4,7 +4,7 @@ use mathlib.Core.Path.{_≡_}
 use mathlib.Core.Logic.{_≢_}
 use mathlib.Core.List.{List, [], _∷_, _++_}
 use Prim.Native.Nat.{ℕ, zero, suc, _+_, _≤_, _<_}
-use Rattle.btree.specs.Lists.{_∈_, span, gather, head0, lastOr, Distinct}
+use Rattle.btree.specs.Lists.{_∈_, span, head0, lastOr, Distinct, along}
 
 -- what a format tells of an image
 pub record View : Type 1 where
@@ -59,15 +59,9 @@ module _ (v : View) where
   abbrev pub treeNodes : List ℕ
   treeNodes = span 0 depth (λ d. below d root)
 
-  -- the nodes along the forward links from n on, at most f of them; link 0 is none
-  abbrev pub along : ℕ → ℕ → List ℕ
-  along zero n = []
-  along (suc f) zero = []
-  along (suc f) (suc n) = suc n ∷ along f (forward (suc n))
-
   -- the map chain "follows forward links from the header to 0"
   abbrev pub mapChain : List ℕ
-  mapChain = along total (forward 0)
+  mapChain = along forward total (forward 0)
 
   -- the nodes reached from the header, itself among them
   abbrev pub reached : List ℕ

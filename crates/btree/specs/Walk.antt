@@ -129,7 +129,7 @@ module _ (v : View) where
       (Dec·and (Dec·and (ℕ-discrete firstLeaf a) (ℕ-discrete lastLeaf b)) (ℕ-discrete leafRecords c))
 
   -- the tests at an entry, "at each node 4, 5, 6, 7": `fresh` answers the first, and p is the node met before it on its level, 0 for none;
--- 7 "looks first at its back link, then at the forward link of the node met before it on that level"
+  -- 7 "looks first at its back link, then at the forward link of the node met before it on that level"
   unfoldable pub test : Bool → ℕ → Entry → Verdict
   test fresh p e =
       unless fresh (fails 4 (e .parent))

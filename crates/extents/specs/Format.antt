@@ -10,11 +10,13 @@ use Rattle.image.specs.Bytes.{be16At, be32At}
 use Rattle.btree.specs.Decide.{cond, map-dec, decAll}
 use Rattle.btree.specs.Layout.{Layout}
 use Rattle.btree.specs.Tree.{View}
+use Rattle.btree.specs.Header.{Format, depthOf, countOf, viewOf}
+use Rattle.hfs.specs.Hfs.{hfs}
 use Rattle.extents.specs.Key.{Key, Lawful, decLawful, packed, keyAt}
 
--- "Nodes are 512 bytes"; "key length is 7"; "256 bytes, 2,048 bits"; "494 bytes, 3,952 bits"; "1 to 6,000 whole nodes"; "depth is 0 to 8"
+-- "key length is 7"
 abbrev pub layout : Layout
-layout = record { nodeSize = 512; keyLength = 7; headerMap = 256; nodeMap = 494; maxNodes = 6000; maxDepth = 8 }
+layout = hfs 7
 
 -- "Kinds: 00 index, 01 header, 02 map, FF leaf."
 abbrev pub leafKind : ℕ
@@ -39,9 +41,6 @@ module _ (img : List ℕ) where
   unfoldable pub kindOf : ℕ → ℕ
   kindOf n = getD img (n * 512 + 8) 0
 
-  unfoldable pub countOf : ℕ → ℕ
-  countOf n = be16At img (n * 512 + 10)
-
   -- "Records lie side by side from 0E"
   unfoldable pub recordAt : ℕ → ℕ → ℕ
   recordAt n i = n * 512 + (14 + i * recordSize (kindOf n))
@@ -54,13 +53,13 @@ module _ (img : List ℕ) where
     pub isKind : kindOf n ≡ kind
     -- "reserved (2, zero)"
     pub reserved : be16At img (n * 512 + 12) ≡ 0
-    pub some : 1 ≤ countOf n
-    pub few : countOf n ≤ maxRecords kind
+    pub some : 1 ≤ countOf layout img n
+    pub few : countOf layout img n ≤ maxRecords kind
     -- "Record offsets are words from the end of the node backwards"; "There is one offset more than records, and it points to the free space."
-    pub offsets : (i : ℕ) → i < suc (countOf n) → be16At img (n * 512 + (510 - 2 * i)) ≡ 14 + i * recordSize kind
+    pub offsets : (i : ℕ) → i < suc (countOf layout img n) → be16At img (n * 512 + (510 - 2 * i)) ≡ 14 + i * recordSize kind
     -- a key has "length 07, fork (00 data, FF resource)"
-    pub lengths : (i : ℕ) → i < countOf n → getD img (recordAt n i) 0 ≡ 7
-    pub forks : (i : ℕ) → i < countOf n → Lawful (getD img (recordAt n i + 1) 0)
+    pub lengths : (i : ℕ) → i < countOf layout img n → getD img (recordAt n i) 0 ≡ 7
+    pub forks : (i : ℕ) → i < countOf layout img n → Lawful (getD img (recordAt n i + 1) 0)
 
   -- a node on level d, counted from 0, of a tree of this depth: "the root 1, each child one more than its parent"
   pub record NodeOn (depth n d : ℕ) : Type 0 where
@@ -75,34 +74,25 @@ module _ (img : List ℕ) where
       (Dec·and (Dec·and (Dec·and (Dec·and (Dec·and (Dec·and
       (ℕ-discrete (kindOf n) kind)
       (ℕ-discrete (be16At img (n * 512 + 12)) 0))
-      (decLe 1 (countOf n)))
-      (decLe (countOf n) (maxRecords kind)))
-      (decAll (λ i. ℕ-discrete (be16At img (n * 512 + (510 - 2 * i))) (14 + i * recordSize kind)) (suc (countOf n))))
-      (decAll (λ i. ℕ-discrete (getD img (recordAt n i) 0) 7) (countOf n)))
-      (decAll (λ i. decLawful (getD img (recordAt n i + 1) 0)) (countOf n)))
+      (decLe 1 (countOf layout img n)))
+      (decLe (countOf layout img n) (maxRecords kind)))
+      (decAll (λ i. ℕ-discrete (be16At img (n * 512 + (510 - 2 * i))) (14 + i * recordSize kind)) (suc (countOf layout img n))))
+      (decAll (λ i. ℕ-discrete (getD img (recordAt n i) 0) 7) (countOf layout img n)))
+      (decAll (λ i. decLawful (getD img (recordAt n i + 1) 0)) (countOf layout img n)))
 
   unfoldable pub decNodeOn : (depth n d : ℕ) → Dec (NodeOn depth n d)
   decNodeOn depth n d =
       map-dec (λ (a, b). record { level = a; records = b }) (λ r. (r .level, r .records))
       (Dec·and (ℕ-discrete (getD img (n * 512 + 9) 0) (d + 1)) (decRecords (kindOn depth d) n))
 
--- "Record 1 at 0E: depth (2), root (4), leaf records (4), first leaf (4), last leaf (4), node size (2), key length (2), total nodes (4), free nodes (4)";
--- "Every node starts with 14 bytes: forward link (4), back link (4), kind (1), level (1), record count (2)"
-unfoldable pub view : List ℕ → View
-view img =
+abbrev pub format : Format
+format =
     record {
-      depth = be16At img 14;
-      root = be32At img 16;
-      leafRecords = be32At img 20;
-      firstLeaf = be32At img 24;
-      lastLeaf = be32At img 28;
-      total = be32At img 36;
-      free = be32At img 40;
-      count = countOf img;
-      key = keyOf img;
-      child = λ n i. be32At img (recordAt img n i + 8);
-      forward = λ n. be32At img (n * 512);
-      back = λ n. be32At img (n * 512 + 4);
-      WellFormed = NodeOn img (be16At img 14);
-      decWellFormed = decNodeOn img (be16At img 14);
+      key = keyOf;
+      child = λ img n i. be32At img (recordAt img n i + 8);
+      WellFormed = λ img n d. NodeOn img (depthOf img) n d;
+      decWellFormed = λ img n d. decNodeOn img (depthOf img) n d;
     }
+
+abbrev pub view : List ℕ → View
+view img = viewOf layout format img

@@ -1,0 +1,1 @@
+// What every B*-tree file of an HFS volume shares: nodes of 512 bytes, the header node, the map.
