@@ -5,19 +5,19 @@ use mathlib.Core.Logic.{_≢_, _↔_, ⊎-elim}
 use mathlib.Core.Option.{Option, none, some}
 use mathlib.Core.List.{List, [], _∷_, _++_, List·Memᴰ·head, List·Memᴰ·tail, List·Memᴰ·cases-cons, List·Memᴰ·append-cases}
 use Prim.Native.Nat.{ℕ, zero, suc, _+_, _-_, _*_, _/_, _%_, _^_, _≤_, _<_}
-use native.Mathlib.Nat.{mod-lt, zero-div, le-div-iff-mul-le, suc-mul, mul-suc}
+use native.Mathlib.Nat.{le-div-iff-mul-le, suc-mul, mul-suc}
 use native.Mathlib.Omega.{arith}
 use native.Mathlib.Decide.{ℕ-discrete, decLt}
-use lib.Dec.{lit<}
-use lib.ListN.{length, getD, take, drop, length-append, length-drop, List·getD-eq-default}
+use lib.ListN.{length, take, drop, length-append, length-drop}
 use lib.Seq.{length-take-le}
 use Rattle.image.specs.Bit.{bitOf}
+use Rattle.image.proofs.Laws.{bit-small, bit-beyond}
 use Rattle.btree.specs.Lists.{_∈_, gather}
 use Rattle.btree.specs.Decide.{cond, decMem}
 use Rattle.btree.specs.Layout.{Layout, Fits, headerMapAt, firstRecordAt}
 use Rattle.btree.specs.Tree.{View, below, mapChain, reached, SoundTree}
 use Rattle.btree.specs.Header.{totalOf, mapNodes}
-use Rattle.btree.specs.Image.{Lengths, HeaderNode, mapSize, MapChain, mapRecord, mapBytes, MapBits}
+use Rattle.btree.specs.Image.{Lengths, mapSize, MapChain, mapRecord, mapBytes, MapBits}
 use Rattle.btree.specs.Tests.{wrongIn, orSome, lowestWrong, bitFor}
 use Rattle.btree.proofs.Decisions.{cond-yes, cond-no}
 use Rattle.btree.proofs.Lists.{span-mem}
@@ -36,16 +36,6 @@ bit-tail x xs k =
     let a : (8 + k) / 8 ≡ suc (k / 8) = omega arith in
     let b : (8 + k) % 8 ≡ k % 8 = omega arith in
     rw (a, b)
-
-pub bit-small : (bs : List ℕ) (k : ℕ) → bitOf bs k < 2
-unfolding bitOf
-bit-small bs k = mod-lt (getD bs (k / 8) 0 / 2 ^ (7 - k % 8)) (lit< tt)
-
-bit-beyond : (bs : List ℕ) (k : ℕ) → 8 * length bs ≤ k → bitOf bs k ≡ 0
-unfolding bitOf
-bit-beyond bs k h =
-    let e = List·getD-eq-default bs 0 {n = k / 8} (omega arith) in
-    rw e (ap (λ (x : ℕ). x % 2) (zero-div (2 ^ (7 - k % 8))))
 
 module _ (used : ℕ → ℕ) where
   wrong-none : (x at j c : ℕ) → wrongIn used x at j c ≡ none → (i : ℕ) → j ≤ i → i < j + c → x / 2 ^ (7 - i) % 2 ≡ used (at + i)
@@ -114,17 +104,17 @@ reached-inRange v p c s n m =
     (List·Memᴰ·append-cases (mapChain v) a))
     (List·Memᴰ·cases-cons m)
 
-module _ (l : Layout) (fits : Fits l) (img : List ℕ) (lengths : Lengths l img) (header : HeaderNode l img) where
+module _ (l : Layout) (fits : Fits l) (img : List ℕ) (lengths : Lengths l img) (whole : totalOf img ≡ length img / l .nodeSize) where
   open Layout l using (nodeSize, headerMap, nodeMap)
 
   pub some-nodes : 0 < totalOf img
   some-nodes =
       let a = le-div-iff-mul-le {k = nodeSize} {x = 1} {y = length img} (omega (arith, fits .header)) .1 (let z = lengths .some in omega arith) in
-      rw (header .whole) (omega arith)
+      rw whole (omega arith)
 
   pub node-inside : (n : ℕ) → n < totalOf img → n * nodeSize + nodeSize ≤ length img
   node-inside n h =
-      let a = le-div-iff-mul-le {k = nodeSize} {x = suc n} {y = length img} (omega (arith, fits .header)) .0 (let e = header .whole in omega arith) in
+      let a = le-div-iff-mul-le {k = nodeSize} {x = suc n} {y = length img} (omega (arith, fits .header)) .0 (omega arith) in
       let b = suc-mul n nodeSize in omega arith
 
   part-length : (at n : ℕ) → at + n ≤ length img → length (take n (drop at img)) ≡ n

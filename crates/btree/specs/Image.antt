@@ -29,7 +29,7 @@ pub record NoTree (img : List ℕ) : Type 0 where
   pub lastLeaf : lastLeafOf img ≡ 0
 
 module _ (l : Layout) (img : List ℕ) where
-  open Layout l using (nodeSize, keyLength, headerMap, nodeMap, maxNodes, maxDepth)
+  open Layout l using (nodeSize, headerMap, nodeMap, maxNodes, maxDepth)
 
   -- "An image is 1 to 6,000 whole nodes"
   pub record Lengths : Type 0 where
@@ -43,7 +43,7 @@ module _ (l : Layout) (img : List ℕ) where
     pub freeAt : be16At img (n * nodeSize + (nodeSize - 4)) ≡ firstRecordAt + nodeMap
     pub recordAt : be16At img (n * nodeSize + (nodeSize - 2)) ≡ firstRecordAt
 
-  pub record HeaderNode : Type 0 where
+  pub record HeaderNode (keyLength : ℕ) : Type 0 where
     -- "Back link 0, kind 01, level 0, three records"
     pub start : Descriptor img 0 1 3
     -- "the last eight bytes 01F8 00F8 0078 000E"
@@ -90,7 +90,7 @@ module _ (l : Layout) (img : List ℕ) where
     -- "Sound means that the image keeps the rules above, whatever a check has said."
     pub record Sound : Type 0 where
       pub lengths : Lengths
-      pub header : HeaderNode
+      pub header : HeaderNode (f .keyLength)
       pub chain : MapChain
       pub layout : LaidOut (viewOf l f img)
       pub tree : SoundTree (viewOf l f img)

@@ -63,7 +63,7 @@ failsAt f none r = r
 failsAt f (some p) r = fails f p
 
 module _ (l : Layout) (img : List ℕ) where
-  open Layout l using (nodeSize, keyLength, headerMap, nodeMap, maxNodes, maxDepth)
+  open Layout l using (nodeSize, headerMap, nodeMap, maxNodes, maxDepth)
 
   unfoldable pub decLengths : Dec (Lengths l img)
   decLengths =
@@ -85,8 +85,8 @@ module _ (l : Layout) (img : List ℕ) where
       (ℕ-discrete (be16At img (n * nodeSize + (nodeSize - 4))) (firstRecordAt + nodeMap)))
       (ℕ-discrete (be16At img (n * nodeSize + (nodeSize - 2))) firstRecordAt))
 
-  unfoldable pub decHeaderNode : Dec (HeaderNode l img)
-  decHeaderNode =
+  unfoldable pub decHeaderNode : (keyLength : ℕ) → Dec (HeaderNode l img keyLength)
+  decHeaderNode keyLength =
       map-dec
       (λ (((((((((a, b), c), d), e), f), g), h), i), j).
       record { start = a; freeAt = b; mapAt = c; secondAt = d; recordAt = e; size = f; key = g; whole = h; levels = i; noTree = j })
@@ -124,7 +124,7 @@ module _ (l : Layout) (img : List ℕ) where
     unfoldable pub verdict : Verdict
     verdict =
         unless (says decLengths) (fails 1 0)
-        (unless (says decHeaderNode) (fails 2 0)
+        (unless (says (decHeaderNode (f .keyLength))) (fails 2 0)
         (orElse (chainFrom [] 0 (mapNodes l img))
         (orElse (walk (viewOf l f img))
         (mapTests (reached (viewOf l f img))))))

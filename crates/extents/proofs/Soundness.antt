@@ -8,11 +8,12 @@ use native.Mathlib.Omega.{arith}
 use Rattle.btree.specs.Layout.{Fits}
 use Rattle.btree.specs.Walk.{fine}
 use Rattle.btree.proofs.Soundness as theory
-use Rattle.extents.specs.Format.{layout, format}
+use Rattle.hfs.specs.Hfs.{hfs}
+use Rattle.extents.specs.Format.{format}
 use Rattle.extents.specs.Reader.{Sound, verdict}
 
-fits : Fits layout
+fits : Fits hfs
 fits = record { header = omega arith; node = omega arith }
 
 pub verdict-iff : (img : List ℕ) → (verdict img ≡ fine) ↔ Sound img
-verdict-iff img = theory.verdict-iff layout fits img format
+verdict-iff img = theory.verdict-iff hfs fits img format

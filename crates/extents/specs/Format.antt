@@ -8,15 +8,10 @@ use native.Mathlib.Decide.{ℕ-discrete, decLe}
 use lib.ListN.{getD}
 use Rattle.image.specs.Bytes.{be16At, be32At}
 use Rattle.btree.specs.Decide.{cond, map-dec, decAll}
-use Rattle.btree.specs.Layout.{Layout}
 use Rattle.btree.specs.Tree.{View}
 use Rattle.btree.specs.Header.{Format, depthOf, countOf, viewOf}
 use Rattle.hfs.specs.Hfs.{hfs}
 use Rattle.extents.specs.Key.{Key, Lawful, decLawful, packed, keyAt}
-
--- "key length is 7"
-abbrev pub layout : Layout
-layout = hfs 7
 
 -- "Kinds: 00 index, 01 header, 02 map, FF leaf."
 abbrev pub leafKind : ℕ
@@ -53,13 +48,13 @@ module _ (img : List ℕ) where
     pub isKind : kindOf n ≡ kind
     -- "reserved (2, zero)"
     pub reserved : be16At img (n * 512 + 12) ≡ 0
-    pub some : 1 ≤ countOf layout img n
-    pub few : countOf layout img n ≤ maxRecords kind
+    pub some : 1 ≤ countOf hfs img n
+    pub few : countOf hfs img n ≤ maxRecords kind
     -- "Record offsets are words from the end of the node backwards"; "There is one offset more than records, and it points to the free space."
-    pub offsets : (i : ℕ) → i < suc (countOf layout img n) → be16At img (n * 512 + (510 - 2 * i)) ≡ 14 + i * recordSize kind
+    pub offsets : (i : ℕ) → i < suc (countOf hfs img n) → be16At img (n * 512 + (510 - 2 * i)) ≡ 14 + i * recordSize kind
     -- a key has "length 07, fork (00 data, FF resource)"
-    pub lengths : (i : ℕ) → i < countOf layout img n → getD img (recordAt n i) 0 ≡ 7
-    pub forks : (i : ℕ) → i < countOf layout img n → Lawful (getD img (recordAt n i + 1) 0)
+    pub lengths : (i : ℕ) → i < countOf hfs img n → getD img (recordAt n i) 0 ≡ 7
+    pub forks : (i : ℕ) → i < countOf hfs img n → Lawful (getD img (recordAt n i + 1) 0)
 
   -- a node on level d, counted from 0, of a tree of this depth: "the root 1, each child one more than its parent"
   pub record NodeOn (depth n d : ℕ) : Type 0 where
@@ -74,11 +69,11 @@ module _ (img : List ℕ) where
       (Dec·and (Dec·and (Dec·and (Dec·and (Dec·and (Dec·and
       (ℕ-discrete (kindOf n) kind)
       (ℕ-discrete (be16At img (n * 512 + 12)) 0))
-      (decLe 1 (countOf layout img n)))
-      (decLe (countOf layout img n) (maxRecords kind)))
-      (decAll (λ i. ℕ-discrete (be16At img (n * 512 + (510 - 2 * i))) (14 + i * recordSize kind)) (suc (countOf layout img n))))
-      (decAll (λ i. ℕ-discrete (getD img (recordAt n i) 0) 7) (countOf layout img n)))
-      (decAll (λ i. decLawful (getD img (recordAt n i + 1) 0)) (countOf layout img n)))
+      (decLe 1 (countOf hfs img n)))
+      (decLe (countOf hfs img n) (maxRecords kind)))
+      (decAll (λ i. ℕ-discrete (be16At img (n * 512 + (510 - 2 * i))) (14 + i * recordSize kind)) (suc (countOf hfs img n))))
+      (decAll (λ i. ℕ-discrete (getD img (recordAt n i) 0) 7) (countOf hfs img n)))
+      (decAll (λ i. decLawful (getD img (recordAt n i + 1) 0)) (countOf hfs img n)))
 
   unfoldable pub decNodeOn : (depth n d : ℕ) → Dec (NodeOn depth n d)
   decNodeOn depth n d =
@@ -88,6 +83,8 @@ module _ (img : List ℕ) where
 abbrev pub format : Format
 format =
     record {
+      -- "key length is 7"
+      keyLength = 7;
       key = keyOf;
       child = λ img n i. be32At img (recordAt img n i + 8);
       WellFormed = λ img n d. NodeOn img (depthOf img) n d;
@@ -95,4 +92,4 @@ format =
     }
 
 abbrev pub view : List ℕ → View
-view img = viewOf layout format img
+view img = viewOf hfs format img

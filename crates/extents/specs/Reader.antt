@@ -19,14 +19,15 @@ use Rattle.btree.specs.Walk.{decOrdered}
 use Rattle.btree.specs.Tests as tests
 use Rattle.extents.specs.Key.{Key, packed, decLawful}
 use Rattle.btree.specs.Header.{countOf, viewOf}
-use Rattle.extents.specs.Format.{layout, leafKind, keyOf, Records, decRecords, format, view}
+use Rattle.hfs.specs.Hfs.{hfs}
+use Rattle.extents.specs.Format.{leafKind, keyOf, Records, decRecords, format, view}
 
 abbrev pub Sound : List ℕ → Type 0
-Sound img = image.Sound layout img format
+Sound img = image.Sound hfs img format
 
 -- the first fault "in the order of tests", as a number of the table and its place
 abbrev pub verdict : List ℕ → Verdict
-verdict img = tests.verdict layout img format
+verdict img = tests.verdict hfs img format
 
 abbrev pub leafRecords : List ℕ → List Rec
 leafRecords img = search.leafList (view img)
@@ -44,7 +45,7 @@ lookup img k = search.lookupOf (view img) (verdict img) (decLawful (k .fork)) (p
 -- "a node counts if it is kind FF, passes the tests of 5 without the level, and its keys strictly ascend"
 pub record WholeLeaf (img : List ℕ) (n : ℕ) : Type 0 where
   pub records : Records img leafKind n
-  pub ascend : (i : ℕ) → suc i < countOf layout img n → keyOf img n i < keyOf img n (suc i)
+  pub ascend : (i : ℕ) → suc i < countOf hfs img n → keyOf img n i < keyOf img n (suc i)
 
 unfoldable pub decWholeLeaf : (img : List ℕ) (n : ℕ) → Dec (WholeLeaf img n)
 unfolding viewOf
@@ -62,7 +63,7 @@ seenOr n (some i) r = Seen n i
 unfoldable pub seenFrom : List ℕ → ℕ → ℕ → ℕ → Salvage
 seenFrom img k n zero = NotSeen
 seenFrom img k n (suc left) =
-    seenOr n (cond (decWholeLeaf img n) (search.recordWith (view img) n k 0 (countOf layout img n)) none) (seenFrom img k (suc n) left)
+    seenOr n (cond (decWholeLeaf img n) (search.recordWith (view img) n k 0 (countOf hfs img n)) none) (seenFrom img k (suc n) left)
 
 -- "Salvage tests 11, then length: more than 3,072,000 bytes is 1; any other length is taken, and a broken last node is ignored. From node 1 up"
 unfoldable pub salvage : List ℕ → Key → Salvage

@@ -1,8 +1,3 @@
-// stub
-ghost use mathlib.Core.Path.{_≡_};
-
-pub fn same(x: u32) -> u32
-    ensures { λ r. ⌜ r ≡ x ⌝ }
-{
-    x
-}
+// Reads of an image, and the bitmap of the nodes that a walk of it met.
+pub mod bytes;
+pub mod visited;
