@@ -8,9 +8,9 @@ use Prim.Native.Nat.{ℕ, zero, suc, _+_, pred, _≤_, _<_}
 use native.Mathlib.Omega.{arith}
 use native.Mathlib.Decide.{ℕ-discrete}
 use Rattle.btree.specs.declared.Verdict.{Verdict}
-use Rattle.btree.specs.Tree.{View, Follows}
+use Rattle.btree.specs.Tree.{View, LeadsTo, Follows}
 use Rattle.btree.specs.Decide.{says, ifZero}
-use Rattle.btree.specs.Walk.{fine, unless, orElse, Entry, lastOn, firstOn, recordsOn, Fresh, Ordered, LeadsTo, Totals, decFresh, decOrdered, decLeads, decTotals, test, ends, closing, walkFrom}
+use Rattle.btree.specs.Walk.{fine, unless, orElse, Entry, lastOn, firstOn, recordsOn, Fresh, Ordered, Totals, decFresh, decOrdered, decLeads, decTotals, test, ends, closing, walkFrom}
 use Rattle.btree.proofs.Decisions.{says-yes, said}
 
 pub unless-zero : (b : Bool) (c r : Verdict) → c .number ≢ 0 → unless b c r .number ≡ 0 → (b ≡ true) × (r .number ≡ 0)

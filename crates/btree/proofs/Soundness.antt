@@ -48,7 +48,7 @@ module _ (l : Layout) (fits : Fits l) (img : List ℕ) where
         let (header, e₂) = passed (decHeaderNode l img (f .keyLength)) _ _ (omega arith) e₁ in
         let (c, e₃) = or-zero (chainFrom l img [] 0 (mapNodes l img)) _ e₂ in
         let (w, e₄) = or-zero (walk (viewOf l f img)) _ e₃ in
-        let pos = some-nodes l fits img lengths (header .whole) in
+        let pos = some-nodes l fits img lengths (header .totalNodes) in
         let chain = chain-rules l img pos c in
         let (layout, tree, totals) = walk-rules (viewOf l f img) w in
         let (bits, count) = map-zero (reached (viewOf l f img)) e₄ in
@@ -56,23 +56,23 @@ module _ (l : Layout) (fits : Fits l) (img : List ℕ) where
           lengths = lengths;
           header = header;
           chain = chain;
-          layout = layout;
+          nodes = layout;
           tree = tree;
           totals = totals;
-          mapBits = bits-rules l fits img lengths (header .whole) chain (reached (viewOf l f img)) (inside pos chain tree) bits;
+          mapBits = bits-rules l fits img lengths (header .totalNodes) chain (reached (viewOf l f img)) (inside pos chain tree) bits;
           freeCount = count;
         }
 
     pub sound-verdict : Sound l img f → verdict l img f ≡ fine
     unfolding verdict mapTests
     sound-verdict s =
-        let pos = some-nodes l fits img (s .lengths) (s .header .whole) in
+        let pos = some-nodes l fits img (s .lengths) (s .header .totalNodes) in
         rw (
           says-yes (decLengths l img) (s .lengths),
           says-yes (decHeaderNode l img (f .keyLength)) (s .header),
           rules-chain l img (s .chain),
-          rules-walk (viewOf l f img) (s .layout) (s .tree) (s .totals),
-          rules-bits l fits img (s .lengths) (s .header .whole) (s .chain) (reached (viewOf l f img)) (inside pos (s .chain) (s .tree)) (s .mapBits),
+          rules-walk (viewOf l f img) (s .nodes) (s .tree) (s .totals),
+          rules-bits l fits img (s .lengths) (s .header .totalNodes) (s .chain) (reached (viewOf l f img)) (inside pos (s .chain) (s .tree)) (s .mapBits),
           says-yes (ℕ-discrete (length (reached (viewOf l f img)) + freeOf img) (totalOf img)) (s .freeCount),
         )
 

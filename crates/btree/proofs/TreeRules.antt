@@ -96,7 +96,7 @@ module _ (v : View) where
   clean-alone : (done es : List Entry) → Clean v done es → (x : Entry) → x ∈ es → Alone x
   clean-alone done [] c x m = absurd (List·Memᴰ·not-nil m)
   clean-alone done (y ∷ es) (g, c) x m =
-      ⊎-elim (λ e. rw e (record { pos = g .fresh .pos; range = g .fresh .range; offChain = g .fresh .free; wellFormed = g .sits .wellFormed; ordered = g .sits .ordered })) (clean-alone (y ∷ done) es c x) (List·Memᴰ·cases-cons m)
+      ⊎-elim (λ e. rw e (record { pos = g .fresh .pos; range = g .fresh .range; offChain = g .fresh .offChain; wellFormed = g .sits .wellFormed; ordered = g .sits .ordered })) (clean-alone (y ∷ done) es c x) (List·Memᴰ·cases-cons m)
 
   -- to the walk
   linked-next : (d : ℕ) (done es : List Entry) (x : Entry) → Linked v (lastOn d done) (onLevel d (x ∷ es)) → Linked v (lastOn d (x ∷ done)) (onLevel d es)
@@ -112,7 +112,7 @@ module _ (v : View) where
   build done (x ∷ es) al di dj li ah =
       let (a, l) = al x (List·Memᴰ·head refl) in
       let linked : Linked v (lastOn (x .level) done) (x .node ∷ onLevel (x .level) es) = rw (cond-yes (ℕ-discrete (x .level) (x .level)) (x .node ∷ onLevel (x .level) es) (onLevel (x .level) es) refl) at (li (x .level) l) in (
-        record { fresh = record { pos = a .pos; range = a .range; free = a .offChain; new = dj (x .node) (List·Memᴰ·head refl) }; sits = record { wellFormed = a .wellFormed; ordered = a .ordered; follows = linked .0 } },
+        record { fresh = record { pos = a .pos; range = a .range; offChain = a .offChain; new = dj (x .node) (List·Memᴰ·head refl) }; sits = record { wellFormed = a .wellFormed; ordered = a .ordered; follows = linked .0 } },
         build (x ∷ done) es (λ y m. al y (List·Memᴰ·tail m)) (di .1)
             (λ n m k. ⊎-elim (λ e. di .0 (Memᴰ·cast (sym e) m)) (dj n (List·Memᴰ·tail m)) (List·Memᴰ·cases-cons k))
             (λ d h. linked-next d done es x (li d h))

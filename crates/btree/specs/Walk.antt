@@ -12,7 +12,7 @@ use native.Mathlib.Omega.{arith}
 use Rattle.btree.specs.declared.Verdict.{Verdict}
 use Rattle.btree.specs.Lists.{_∈_, span}
 use Rattle.btree.specs.Decide.{cond, says, ifZero, map-dec, decImp, decMem, decAll}
-use Rattle.btree.specs.Tree.{View, mapChain}
+use Rattle.btree.specs.Tree.{View, mapChain, LeadsTo}
 
 abbrev pub fine : Verdict
 fine = record { number = 0; place = 0 }
@@ -53,7 +53,7 @@ unfoldable pub decUnder : (k : ℕ) (o : Option ℕ) → Dec (Under k o)
 decUnder k none = yes tt
 decUnder k (some b) = decLt k b
 
--- What the walk knows after the entries `done`, the latest first.
+-- What is known after the entries `done`, the latest first.
 -- the last node met on a level, 0 where there is none
 abbrev pub lastOn : ℕ → List Entry → ℕ
 lastOn d [] = 0
@@ -91,17 +91,13 @@ module _ (v : View) where
   pub record Fresh (done : List Entry) (n : ℕ) : Type 0 where
     pub pos : 0 < n
     pub range : n < total
-    pub free : n ∈ mapChain v → ⊥
+    pub offChain : n ∈ mapChain v → ⊥
     pub new : n ∈ nodesOf done → ⊥
 
   -- test 6: the keys strictly ascend, within the bounds of the search path
   pub record Ordered (lo : ℕ) (hi : Option ℕ) (n : ℕ) : Type 0 where
     pub rise : (i : ℕ) → suc i < count n → key n i < key n (suc i)
     pub within : (i : ℕ) → i < count n → (lo ≤ key n i) × Under (key n i) hi
-
-  -- test 7, of a forward link: the node p, where it is one, leads on to n
-  abbrev pub LeadsTo : ℕ → ℕ → Type 0
-  LeadsTo p n = p ≢ 0 → forward p ≡ n
 
   -- test 8: the header agrees with the leaves met, the first, the last and their records
   pub record Totals (a b c : ℕ) : Type 0 where
@@ -111,7 +107,7 @@ module _ (v : View) where
 
   unfoldable pub decFresh : (done : List Entry) (n : ℕ) → Dec (Fresh done n)
   decFresh done n =
-      map-dec (λ (((a, b), f), c). record { pos = a; range = b; free = f; new = c }) (λ f. (((f .pos, f .range), f .free), f .new))
+      map-dec (λ (((a, b), f), c). record { pos = a; range = b; offChain = f; new = c }) (λ f. (((f .pos, f .range), f .offChain), f .new))
       (Dec·and (Dec·and (Dec·and (decLt 0 n) (decLt n total)) (Dec·not (decMem n (mapChain v)))) (Dec·not (decMem n (nodesOf done))))
 
   unfoldable pub decOrdered : (lo : ℕ) (hi : Option ℕ) (n : ℕ) → Dec (Ordered lo hi n)
@@ -120,7 +116,7 @@ module _ (v : View) where
       (Dec·and (decAll (λ i. decImp (decLt (suc i) (count n)) (decLt (key n i) (key n (suc i)))) (count n))
       (decAll (λ i. Dec·and (decLe lo (key n i)) (decUnder (key n i) hi)) (count n)))
 
-  unfoldable pub decLeads : (p n : ℕ) → Dec (LeadsTo p n)
+  unfoldable pub decLeads : (p n : ℕ) → Dec (LeadsTo v p n)
   decLeads p n = decImp (Dec·not (ℕ-discrete p 0)) (ℕ-discrete (forward p) n)
 
   unfoldable pub decTotals : (a b c : ℕ) → Dec (Totals a b c)

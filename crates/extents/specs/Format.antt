@@ -11,7 +11,7 @@ use Rattle.btree.specs.Decide.{cond, map-dec, decAll}
 use Rattle.btree.specs.Tree.{View}
 use Rattle.btree.specs.Header.{Format, depthOf, countOf, viewOf}
 use Rattle.hfs.specs.Hfs.{hfs}
-use Rattle.extents.specs.Key.{Key, Lawful, decLawful, packed, keyAt}
+use Rattle.extents.specs.Key.{Lawful, decLawful, packed, keyAt}
 
 -- "Kinds: 00 index, 01 header, 02 map, FF leaf."
 abbrev pub leafKind : ℕ

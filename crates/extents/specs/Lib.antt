@@ -1,3 +1,4 @@
 pub mod Key
 pub mod Format
 pub mod Reader
+pub mod Inner

@@ -3,7 +3,7 @@
 use mathlib.Core.Logic.{Dec·and}
 use mathlib.Core.Option.{Option, none, some}
 use mathlib.Core.List.{List}
-use Prim.Native.Nat.{ℕ, zero, suc, _-_, _/_, _<_}
+use Prim.Native.Nat.{ℕ, zero, suc, _-_, _*_, _/_, _<_}
 use native.Mathlib.Omega.{arith}
 use native.Mathlib.Decide.{decLe}
 use lib.ListN.{length}
@@ -25,12 +25,12 @@ use Rattle.extents.specs.Format.{leafKind, keyOf, Records, decRecords, f
 abbrev pub Sound : List ℕ → Type 0
 Sound img = image.Sound hfs img format
 
--- the first fault "in the order of tests", as a number of the table and its place
+-- the first fault in the order of tests, as a number of the table and its place
 abbrev pub verdict : List ℕ → Verdict
 verdict img = tests.verdict hfs img format
 
-abbrev pub leafRecords : List ℕ → List Rec
-leafRecords img = search.leafList (view img)
+abbrev pub leafList : List ℕ → List Rec
+leafList img = search.leafList (view img)
 
 abbrev pub searchPath : List ℕ → Key → List ℕ
 searchPath img k = search.pathOf (view img) (packed k)
@@ -69,5 +69,5 @@ seenFrom img k n (suc left) =
 unfoldable pub salvage : List ℕ → Key → Salvage
 salvage img k =
     cond (decLawful (k .fork))
-    (cond (decLe (length img) 3072000) (seenFrom img (packed k) 1 (length img / 512 - 1)) (Refused 1 0))
+    (cond (decLe (length img) (hfs .maxNodes * hfs .nodeSize)) (seenFrom img (packed k) 1 (length img / hfs .nodeSize - 1)) (Refused 1 0))
     (Refused 11 0)

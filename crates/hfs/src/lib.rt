@@ -1,1 +1,2 @@
-// What every B*-tree file of an HFS volume shares: nodes of 512 bytes, the header node, the map.
+// What every B*-tree file of an HFS volume shares: nodes of 512 bytes.
+pub mod node;

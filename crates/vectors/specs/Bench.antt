@@ -3,15 +3,14 @@
 use mathlib.Core.Path.{_≡_}
 use mathlib.Core.List.{List, [], _∷_}
 use Prim.Native.Nat.{ℕ}
-use lib.IntN.{ℤ, pos, negsuc}
-use lib.ListN.{length, replicate, set, take}
+use lib.IntN.{ℤ, negsuc}
+use lib.ListN.{replicate, set}
 use Rattle.btree.specs.Walk.{fails}
 use Rattle.btree.specs.declared.Lookup.{Lookup}
-use Rattle.btree.specs.declared.Verdict.{Verdict}
-use Rattle.btree.specs.Numbers.{Reply, lookupReply}
+use Rattle.btree.specs.Numbers.{lookupReply}
 use Rattle.extents.specs.Key.{Key, Lawful, packed, compared}
 use Rattle.extents.specs.Reader.{asked, verdict, lookup}
-use Rattle.vectors.specs.Build.{E1, L1, put}
+use Rattle.vectors.specs.Build.{E1, L1}
 
 -- the numbers of a reply and of the search path beside it
 abbrev pub numbersOf : Lookup → List ℕ

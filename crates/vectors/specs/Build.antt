@@ -16,7 +16,7 @@ be16 n = n / 256 % 256 ∷ n % 256 ∷ []
 abbrev pub be32 : ℕ → List ℕ
 be32 n = n / 16777216 % 256 ∷ n / 65536 % 256 ∷ n / 256 % 256 ∷ n % 256 ∷ []
 
--- an image of so many bytes "with a header as above", whose depth, root, leaf records, first and last leaf are all one number
+-- an image of so many bytes with "a header as above", whose depth, root, leaf records, first and last leaf are all one number
 abbrev pub headed : ℕ → ℕ → ℕ → ℕ → List ℕ
 headed size one total mapByte =
     put 8 (1 ∷ [])

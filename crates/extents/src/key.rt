@@ -1,0 +1,35 @@
+// The key of an extents record.
+ghost use mathlib.Core.Path.{_≡_};
+ghost use Prim.Native.Nat.{_<_};
+ghost use Rattle.btree.specs.Decide.{says};
+ghost use Rattle.extents.specs.Key.{decLawful, packed, keyAt};
+ghost use Rattle.extents.specs.Reader.{asked};
+use image::bytes::{be16, be32, byte_at};
+
+// The fork bytes 00 and FF are lawful.
+pub fn is_lawful(fork: u32) -> bool
+    ensures { λ r. ⌜ r ≡ says (decLawful fork) ⌝ }
+{
+    if fork == 0 {
+        return true;
+    }
+    fork == 255
+}
+
+// The packed number of a key; numeric order is key order.
+pub fn pack(file: u32, fork: u8, start: u16) -> u64
+    ensures { λ r. ⌜ (r ≡ packed (asked file fork start)) × (r < 72057594037927936) ⌝ }
+{
+    (file as u64) * 16_777_216 + (fork as u64) * 65_536 + (start as u64)
+}
+
+// The packed key that stands at a byte of the image.
+pub fn key_at(image: &[u8], at: usize) -> u64
+    requires { ⌜ at < 100000000000000 ⌝ }
+    ensures { λ r. ⌜ (r ≡ packed (keyAt (now (image .entry)) at)) × (r < 72057594037927936) ⌝ }
+{
+    let file = be32(image, at + 2) as u64;
+    let fork = byte_at(image, at + 1) as u64;
+    let start = be16(image, at + 6) as u64;
+    file * 16_777_216 + fork * 65_536 + start
+}
