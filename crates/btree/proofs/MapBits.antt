@@ -95,6 +95,14 @@ module _ (nodes : List ℕ) (k : ℕ) where
   unfolding bitFor
   bit-not f = cond-no (decMem k nodes) 1 0 f
 
+-- the bits of two lists that hold the same nodes
+pub bit-same : (xs ys : List ℕ) (k : ℕ) → (k ∈ xs → k ∈ ys) → (k ∈ ys → k ∈ xs) → bitFor xs k ≡ bitFor ys k
+bit-same xs ys k f g = go (decMem k xs)
+  where
+    go : Dec (k ∈ xs) → bitFor xs k ≡ bitFor ys k
+    go (yes m) = bit-for xs k m ∙ sym (bit-for ys k (f m))
+    go (no n) = bit-not xs k n ∙ sym (bit-not ys k (λ m. n (g m)))
+
 -- every node reached is one of the image's
 pub reached-inRange : (v : View) → 0 < v .total → ((n : ℕ) → n ∈ mapChain v → n < v .total) → SoundTree v → (n : ℕ) → n ∈ reached v → n < v .total
 reached-inRange v p c s n m =

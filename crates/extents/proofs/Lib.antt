@@ -1,3 +1,9 @@
+pub mod Agree
+pub mod Marking
+pub mod Room
+pub mod Fresh
+pub mod Links
+pub mod Steps
 pub mod Telling
 pub mod Ascent
 pub mod Bounds

@@ -1,11 +1,19 @@
--- The sizes of records, by the kind of their node.
+-- The sizes of records and how many a node holds, by its kind.
 -- Assumes nothing.
-use mathlib.Core.Path.{_≡_}
+use mathlib.Core.Path.{_≡_, refl}
 use mathlib.Core.Logic.{_≢_}
-use Prim.Native.Nat.{ℕ}
+use mathlib.Core.Bool.{Bool, true, false}
+use mathlib.Core.List.{List}
+use Prim.Native.Nat.{ℕ, _+_, _≤_}
+use native.Mathlib.Omega.{arith}
 use native.Mathlib.Decide.{ℕ-discrete}
+use lib.Dec.{eqb}
+use borrow.Author.Tests.{eqb-true}
+use Rattle.btree.specs.Header.{depthOf, countOf, viewOf}
+use Rattle.hfs.specs.Hfs.{hfs}
 use Rattle.btree.proofs.Decisions.{cond-yes, cond-no}
-use Rattle.extents.specs.Format.{leafKind, recordSize, maxRecords}
+use Rattle.extents.specs.Format.{leafKind, indexKind, recordSize, maxRecords, kindOn, view}
+use Rattle.extents.specs.Inner.{pick}
 
 module _ (kind : ℕ) where
   pub size-leaf : kind ≡ leafKind → recordSize kind ≡ 20
@@ -23,3 +31,15 @@ module _ (kind : ℕ) where
   pub max-index : kind ≢ leafKind → maxRecords kind ≡ 35
   unfolding maxRecords
   max-index e = cond-no (ℕ-discrete kind leafKind) 22 35 e
+
+-- a leaf that is laid out right has at most 22 records
+pub leaf-few : (img : List ℕ) (n d : ℕ) → view img .WellFormed n d → pick (eqb (d + 1) (view img .depth)) (view img .count n) 0 ≤ 22
+unfolding viewOf kindOn
+leaf-few img n d w = go (eqb (d + 1) (depthOf img)) refl
+  where
+    go : (b : Bool) → eqb (d + 1) (depthOf img) ≡ b → pick b (countOf hfs img n) 0 ≤ 22
+    go false e = omega arith
+    go true e =
+        let k = cond-yes (ℕ-discrete (d + 1) (depthOf img)) leafKind indexKind (eqb-true (d + 1) (depthOf img) e) in
+        let m = max-leaf (kindOn (depthOf img) d) k in
+        let f = w .records .few in omega arith

@@ -84,6 +84,14 @@ pub record Small (w : Walk) : Type 0 where
   pub records : w .records ≤ 22 * ones (w .visited .bits) 6000
   pub nodes : w .nodes ≤ 6000 + ones (w .visited .bits) 6000
 
+-- a state that has room for a node with c records
+pub record Keepable (w : Walk) (n d c : ℕ) : Type 0 where
+  pub inRange : n < 6000
+  pub level : d < 8
+  pub records : w .records < 1000000
+  pub nodes : w .nodes < 1000000
+  pub count : c < 65536
+
 -- what a visit asks, on level d with h levels below it
 pub record Ready (img : List ℕ) (d h : ℕ) (w : Walk) : Type 0 where
   pub few : view img .total ≤ 6000

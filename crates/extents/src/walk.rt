@@ -1,16 +1,16 @@
 // Tests 4 to 8: the recursive walk of the tree.
 ghost use mathlib.Core.Path.{_≡_};
-ghost use Prim.Native.Nat.{_+_, _<_, _≤_, pred};
-ghost use lib.Dec.{eqb};
+ghost use Prim.Native.Nat.{_<_, _≤_};
 ghost use Rattle.btree.specs.Decide.{says};
-ghost use Rattle.btree.specs.Walk.{decLeads, decTotals, test, closing, entries};
-ghost use Rattle.extents.specs.Format.{kindOn, decNodeOn, view};
-ghost use Rattle.extents.specs.Inner.{pick, bound, freshIn, stopped, firstWith, kept, lastAt, step, steps, Ready, Gives, Points, entry};
+ghost use Rattle.btree.specs.Header.{depthOf};
+ghost use Rattle.btree.specs.Walk.{decLeads, test, entries};
+ghost use Rattle.extents.specs.Format.{kindOn, view};
+ghost use Rattle.extents.specs.Inner.{pick, bound, freshIn, stopped, firstWith, kept, lastAt, step, steps, Keepable, Ready, Gives, Points, entry};
 use super::records::{child_of, key_of, keys_ordered, records_right};
 use btree::Verdict;
 use hfs::node::{back_of, count_of, forward_of, level_of};
-use image::bytes::{be16, be32};
-use image::visited::{has, mark, Visited};
+use image::bytes::{be16, be32, bit_at};
+use image::visited::{mark, Visited};
 
 // The nodes met, with the header and the map chain, and what the tests at the end ask of them.
 pub struct Walk {
@@ -32,4 +32,214 @@ pub struct Pointer {
     pub child: u32,
     pub low: u64,
     pub high: u64,
+}
+
+// The kind of the nodes on a level.
+fn kind_on(image: &[u8], level: u32) -> u32
+    requires { ⌜ level < 8 ⌝ }
+    ensures { λ r. ⌜ r ≡ kindOn (depthOf (now (image .entry))) level ⌝ }
+{
+    if level + 1 == be16(image, 14) { 255 } else { 0 }
+}
+
+// Test 5.
+fn node_right(image: &[u8], node: u32, level: u32) -> bool
+    requires { ⌜ level < 8 ⌝ }
+    ensures { λ r. ⌜ r ≡ says (view (now (image .entry)) .decWellFormed node level) ⌝ }
+{
+    if level_of(image, node) != level + 1 {
+        return false;
+    }
+    records_right(image, node, kind_on(image, level))
+}
+
+// Test 4.
+fn is_fresh(w: Walk, total: u32, node: u32) -> bool
+    ensures { λ r. ⌜ r ≡ freshIn total w node ⌝ }
+{
+    if node >= total {
+        return false;
+    }
+    bit_at(&w.visited.bits, node as usize) == 0
+}
+
+fn last_on(w: Walk, level: u32) -> u32
+    requires { ⌜ level < 8 ⌝ }
+    ensures { λ r. ⌜ r ≡ lastAt w level ⌝ }
+{
+    w.last[level as usize]
+}
+
+// Whether the node p, where it is one, has the forward link `node`.
+fn leads(image: &[u8], p: u32, node: u32) -> bool
+    ensures { λ r. ⌜ r ≡ says (decLeads (view (now (image .entry))) p node) ⌝ }
+{
+    if p == 0 {
+        return true;
+    }
+    forward_of(image, p) == node
+}
+
+// The tests at a node: 4, 5, 6, 7.
+fn tested(
+    image: &[u8],
+    w: Walk,
+    node: u32,
+    parent: u32,
+    level: u32,
+    low: u64,
+    high: u64,
+) -> Verdict
+    requires { ⌜ level < 8 ⌝ }
+    ensures { λ r. ⌜ r ≡ test (view (now (image .entry))) (freshIn (view (now (image .entry)) .total) w node) (lastAt w level) (entry node parent level low high) ⌝ }
+{
+    if !is_fresh(w, be32(image, 36), node) {
+        return Verdict {
+            number: 4,
+            place: parent,
+        };
+    }
+    if !node_right(image, node, level) {
+        return Verdict {
+            number: 5,
+            place: node,
+        };
+    }
+    if !keys_ordered(image, node, low, high) {
+        return Verdict {
+            number: 6,
+            place: node,
+        };
+    }
+    let p = last_on(w, level);
+    if back_of(image, node) != p {
+        return Verdict {
+            number: 7,
+            place: node,
+        };
+    }
+    if !leads(image, p, node) {
+        return Verdict {
+            number: 7,
+            place: p,
+        };
+    }
+    Verdict {
+        number: 0,
+        place: 0,
+    }
+}
+
+fn stopped_at(w: Walk, t: Verdict) -> Walk
+    ensures { λ r. ⌜ r ≡ stopped w t ⌝ }
+{
+    let mut x = w;
+    x.number = t.number;
+    x.place = t.place;
+    x
+}
+
+fn first_with(leaf: bool, first: u32, node: u32) -> u32
+    ensures { λ r. ⌜ r ≡ firstWith leaf first node ⌝ }
+{
+    if leaf {
+        if first == 0 {
+            return node;
+        }
+    }
+    first
+}
+
+fn counted(leaf: bool, c: u32) -> u32
+    ensures { λ r. ⌜ (r ≡ pick leaf c 0) × (r ≤ c) ⌝ }
+{
+    if leaf { c } else { 0 }
+}
+
+// A node that passed its tests.
+fn kept_at(w: Walk, node: u32, level: u32, leaf: bool, c: u32) -> Walk
+    requires { ⌜ Keepable w node level c ⌝ }
+    ensures { λ r. ⌜ r ≡ kept w node level leaf c ⌝ }
+{
+    let first = first_with(leaf, w.first, node);
+    let more = counted(leaf, c);
+    let before = w.visited;
+    let visited = mark(before, node);
+    let mut x = w;
+    x.visited = visited;
+    x.last[level as usize] = node;
+    x.records = x.records + more;
+    x.first = first;
+    x.nodes = x.nodes + 1;
+    x
+}
+
+fn stepped(
+    image: &[u8],
+    w: Walk,
+    node: u32,
+    parent: u32,
+    level: u32,
+    below: u32,
+    low: u64,
+    high: u64,
+) -> Walk
+    requires { ⌜ Ready (now image) level below w ⌝ }
+    ensures { λ r. ⌜ Gives r (step (view (now (image .entry))) w (entry node parent level low high)) ⌝ }
+{
+    let t = tested(image, w, node, parent, level, low, high);
+    if t.number != 0 {
+        return stopped_at(w, t);
+    }
+    let c = count_of(image, node);
+    kept_at(w, node, level, below == 0, c)
+}
+
+// Record i of c: where it leads, and the bounds of the keys there.
+fn pointer_at(image: &[u8], node: u32, i: u32, c: u32, high: u64) -> Pointer
+    requires { ⌜ (i < 65535) × (c ≡ view (now image) .count node) ⌝ }
+    ensures { λ r. ⌜ Points (view (now (image .entry))) node i high r ⌝ }
+{
+    let child = child_of(image, node, i);
+    let low = key_of(image, node, i);
+    if i + 1 >= c {
+        return Pointer { child, low, high };
+    }
+    let next = key_of(image, node, i + 1);
+    Pointer {
+        child,
+        low,
+        high: next,
+    }
+}
+
+// Each node before its children, children left to right; the levels still below the node fall.
+pub fn visit(
+    image: &[u8],
+    w: Walk,
+    node: u32,
+    parent: u32,
+    level: u32,
+    below: u32,
+    low: u64,
+    high: u64,
+) -> Walk
+    requires { ⌜ Ready (now image) level below w ⌝ }
+    ensures { λ r. ⌜ Gives r (steps (view (now (image .entry))) w (entries (view (now (image .entry))) below level parent low (bound high) node)) ⌝ }
+{
+    let mut x = stepped(image, w, node, parent, level, below, low, high);
+    if below == 0 {
+        return x;
+    }
+    let c = count_of(image, node);
+    let mut i: u32 = 0;
+    while i < c {
+        if x.number != 0 {
+            return x;
+        }
+        let p = pointer_at(image, node, i, c, high);
+        x = visit(image, x, p.child, node, level + 1, below - 1, p.low, p.high);
+        i += 1;
+    }
+    x
 }

@@ -1,0 +1,21 @@
+-- `walk::first_with` meets its contract. Assumes nothing.
+use Rattle.extents.proofs.Links.{first-kept}
+use Rattle.extents.specs.Inner.{firstWith}
+use mathlib.Core.Path.{sym}
+use Rattle.extents.proofs.walk.first_with.Statement.{statement}
+use Rattle.extents.proofs.walk.first_with.Tie as tie
+
+returns : tie.Need-returns
+unfolding firstWith
+returns c = rw (c .before .if1 .taken, c .if2 .taken)
+
+returns-2 : tie.Need-returns-2
+unfolding firstWith
+returns-2 c = rw (c .before .if1 .taken) (sym (first-kept _ _ (c .if2 .left)))
+
+returns-3 : tie.Need-returns-3
+unfolding firstWith
+returns-3 c = rw (c .if1 .left)
+
+pub first-with-spec : {M : Type 1} → statement M
+first-with-spec = tie.close (tie.spec returns returns-2 returns-3)
