@@ -11,3 +11,4 @@ pub mod Answers
 pub mod Chain
 pub mod MapBits
 pub mod Soundness
+pub mod Reached

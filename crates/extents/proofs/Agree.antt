@@ -193,3 +193,11 @@ module _ (v : View) (small : v .total ≤ 6000) (shallow : v .depth ≤ 8) where
     pub found-none : x .number ≡ 0 → closing v (lastAt x) (x .first) (x .records) ≡ walk v
     unfolding finish
     found-none h = sym (if-zero (x .number) _ _ h) ∙ found
+
+    whole : x ≡ steps v w (treeEntries v (v .depth))
+    whole = is ∙ (let e : v .depth ≡ suc (v .depth - 1) = omega arith in ap (λ (k : ℕ). steps v w (treeEntries v k)) (sym e))
+
+    pub found-agree : x .number ≡ 0 → Agrees v x (onto (treeEntries v (v .depth)) [])
+    found-agree h =
+        rw whole
+        (steps-agree [] (treeEntries v (v .depth)) w a (tree-deep v (v .depth) refl) (sym (ap (λ (y : Walk). y .number) whole) ∙ h))

@@ -1,3 +1,5 @@
+pub mod Closing
+pub mod Finish
 pub mod Agree
 pub mod Marking
 pub mod Room

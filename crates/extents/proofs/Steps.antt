@@ -22,10 +22,10 @@ pub if-other : {A : Type 0} (n : ℕ) (a b : A) → (n ≡ 0 → ⊥) → ifZero
 if-other zero a b h = absurd (h refl)
 if-other (suc n) a b h = refl
 
-one-more : (n i : ℕ) → i < n → n - i ≡ suc (n - (i + 1))
+pub one-more : (n i : ℕ) → i < n → n - i ≡ suc (n - (i + 1))
 one-more n i h = omega arith
 
-none-left : (n i : ℕ) → n ≤ i → n - i ≡ 0
+pub none-left : (n i : ℕ) → n ≤ i → n - i ≡ 0
 none-left n i h = omega arith
 
 module _ (v : View) where

@@ -11,8 +11,8 @@ use Rattle.image.specs.Bit.{bitOf}
 use Rattle.image.specs.Set.{withBit}
 use Rattle.btree.specs.declared.Verdict.{Verdict}
 use Rattle.btree.specs.Decide.{ifZero}
-use Rattle.btree.specs.Tree.{View, mapChain}
-use Rattle.btree.specs.Walk.{Entry, nodesOf, lastOn, firstOr, firstOn, recordsOn, above, fails, test, closing}
+use Rattle.btree.specs.Tree.{View, mapChain, reached}
+use Rattle.btree.specs.Walk.{Entry, nodesOf, lastOn, firstOr, firstOn, recordsOn, above, fails, test, closing, walk}
 use Rattle.btree.specs.Tests.{bitFor}
 use Rattle.extents.specs.declared.walk.Walk.{Walk}
 use Rattle.extents.specs.declared.walk.Pointer.{Pointer}
@@ -132,3 +132,17 @@ pub record Agrees (v : View) (w : Walk) (done : List Entry) : Type 0 where
   pub records : w .records ≡ recordsOn v (pred (v .depth)) done
   pub nodes : w .nodes ≡ length (met v done)
   pub number : w .number ≡ 0
+
+-- what the tests of the tree ask: the bits and the count are those of the header and the map chain
+pub record Begins (img bits : List ℕ) (nodes : ℕ) : Type 0 where
+  pub few : view img .total ≤ 6000
+  pub shallow : view img .depth ≤ 8
+  pub marks : Marks bits (0 ∷ mapChain (view img))
+  pub count : nodes ≡ suc (length (mapChain (view img)))
+  pub small : nodes ≤ 6000
+
+-- what they give: the first fault, or else the bits and the count of all nodes reached
+pub record Ends (img : List ℕ) (r : Walk) : Type 0 where
+  pub verdict : fails (r .number) (r .place) ≡ walk (view img)
+  pub marks : r .number ≡ 0 → Marks (r .visited .bits) (reached (view img))
+  pub count : r .number ≡ 0 → r .nodes ≡ length (reached (view img))

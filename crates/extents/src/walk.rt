@@ -1,11 +1,11 @@
 // Tests 4 to 8: the recursive walk of the tree.
 ghost use mathlib.Core.Path.{_≡_};
-ghost use Prim.Native.Nat.{_<_, _≤_};
+ghost use Prim.Native.Nat.{_<_, _≤_, pred};
 ghost use Rattle.btree.specs.Decide.{says};
 ghost use Rattle.btree.specs.Header.{depthOf};
-ghost use Rattle.btree.specs.Walk.{decLeads, test, entries};
+ghost use Rattle.btree.specs.Walk.{decLeads, decTotals, test, closing, entries};
 ghost use Rattle.extents.specs.Format.{kindOn, view};
-ghost use Rattle.extents.specs.Inner.{pick, bound, freshIn, stopped, firstWith, kept, lastAt, step, steps, Keepable, Ready, Gives, Points, entry};
+ghost use Rattle.extents.specs.Inner.{pick, bound, freshIn, stopped, firstWith, kept, lastAt, step, steps, Keepable, Ready, Gives, Points, entry, Begins, Ends};
 use super::records::{child_of, key_of, keys_ordered, records_right};
 use btree::Verdict;
 use hfs::node::{back_of, count_of, forward_of, level_of};
@@ -242,4 +242,86 @@ pub fn visit(
         i += 1;
     }
     x
+}
+
+// Test 8.
+fn totals_right(image: &[u8], first: u32, last: u32, records: u32) -> bool
+    ensures { λ r. ⌜ r ≡ says (decTotals (view (now (image .entry))) first last records) ⌝ }
+{
+    if be32(image, 24) != first {
+        return false;
+    }
+    if be32(image, 28) != last {
+        return false;
+    }
+    be32(image, 20) == records
+}
+
+// The last node met on the lowest level.
+fn last_leaf(w: Walk, depth: u32) -> u32
+    requires { ⌜ depth ≤ 8 ⌝ }
+    ensures { λ r. ⌜ r ≡ lastAt w (pred depth) ⌝ }
+{
+    if depth == 0 {
+        return last_on(w, 0);
+    }
+    last_on(w, depth - 1)
+}
+
+// The last node's forward link of each level from the root down; then test 8.
+fn closing_tests(image: &[u8], w: Walk) -> Verdict
+    requires { ⌜ view (now image) .depth ≤ 8 ⌝ }
+    ensures { λ r. ⌜ r ≡ closing (view (now (image .entry))) (lastAt w) (w .first) (w .records) ⌝ }
+{
+    let depth = be16(image, 14);
+    let mut d: u32 = 0;
+    while d < depth {
+        let p = last_on(w, d);
+        if !leads(image, p, 0) {
+            return Verdict {
+                number: 7,
+                place: p,
+            };
+        }
+        d += 1;
+    }
+    let last = last_leaf(w, depth);
+    if !totals_right(image, w.first, last, w.records) {
+        return Verdict {
+            number: 8,
+            place: 0,
+        };
+    }
+    Verdict {
+        number: 0,
+        place: 0,
+    }
+}
+
+// Tests 4 to 8, where `visited` has the header and the map chain, and they are so many.
+pub fn tree_tests(image: &[u8], visited: Visited, nodes: u32) -> Walk
+    requires { ⌜ Begins (now image) (visited .bits) nodes ⌝ }
+    ensures { λ r. ⌜ Ends (now (image .entry)) r ⌝ }
+{
+    let w = Walk {
+        visited,
+        last: [0; 8],
+        records: 0,
+        first: 0,
+        nodes,
+        number: 0,
+        place: 0,
+    };
+    let depth = be16(image, 14);
+    if depth == 0 {
+        let none = closing_tests(image, w);
+        return stopped_at(w, none);
+    }
+    let root = be32(image, 16);
+    let x = visit(image, w, root, 0, 0, depth - 1, 0, 72_057_594_037_927_936);
+    if x.number != 0 {
+        return x;
+    }
+    let t = closing_tests(image, x);
+    stopped_at(x, t)
 }

@@ -1,0 +1,122 @@
+use Rattle.extents.specs.declared.walk.Walk.{Walk}
+use lib.ListN.{length, replicate}
+use native.Mathlib.Omega.{arith}
+use Prim.Native.Nat.{_-_}
+use mathlib.Core.List.{List, []}
+use mathlib.Core.Option.{none}
+use mathlib.Core.Path.{_≡_, refl, sym, _∙_}
+use Rattle.btree.specs.Walk.{entries}
+use Rattle.btree.specs.Header.{viewOf}
+use Rattle.extents.specs.Inner.{steps, Agrees, Begins}
+use Rattle.extents.specs.Format.{view}
+use Rattle.extents.proofs.Bounds.{bound-none}
+use Rattle.extents.proofs.Finish.{begun, ended, faulted, no-levels}
+use Rattle.extents.proofs.Agree.{tree-none, found-fault, found-none, found-agree}
+use borrow.Author.Needs.{needs}
+use Rattle.extents.proofs.walk.tree_tests.Statement.{statement}
+use Rattle.extents.proofs.walk.tree_tests.Tie as tie
+use Rattle.extents.proofs.walk.tree_tests.Reads as reads
+use Rattle.extents.proofs.walk.tree_tests.Lts as lts
+use Rattle.extents.proofs.walk.closing_tests.Reads as closing-tests-reads
+use Rattle.extents.proofs.walk.stopped_at.Reads as stopped-at-reads
+use Rattle.extents.proofs.walk.visit.Reads as visit-reads
+use Rattle.image.proofs.bytes.be16.Reads as be16-reads
+use Rattle.image.proofs.bytes.be32.Reads as be32-reads
+
+long : (c : tie.Start) → length (c .args .visited .bits) ≡ 750
+long c = search needs
+
+-- the state that the walk begins with
+abbrev start : tie.Start → Walk
+start c = record { visited = c .args .visited; last = replicate 8 0; records = 0; first = 0; nodes = c .args .nodes; number = 0; place = 0 }
+
+began : (c : tie.Start) → Agrees (view (c .args .image .now)) (start c) []
+began c = begun (view (c .args .image .now)) (start c) (long c) (c .pre .marks) (c .pre .count) refl refl refl refl
+
+-- what the visit of the root gives
+walked : (c : tie.After-visit) → let s = c .before .before .before .before .before in let v = view (s .args .image .now) in
+    c .visit .result ≡ steps v (start s) (entries v (v .depth - 1) 0 0 0 none (v .root))
+unfolding viewOf
+walked c = c .visit .ensures .is ∙ rw (c .before .before .before .be16 .ensures .0, c .before .be32 .ensures, bound-none)
+
+deep : (c : tie.Else1) → view (c .before .before .before .args .image .now) .depth ≡ 0 → ⊥
+unfolding viewOf
+deep c z = c .if1 .left (c .before .be16 .ensures .0 ∙ z)
+
+-- src/walk.rt:315:9
+be16-requires : tie.Need-be16-requires
+be16-requires c κs = search needs
+
+-- src/walk.rt:317:13
+closing-tests-requires : tie.Need-closing-tests-requires
+closing-tests-requires c κs = search needs
+
+-- src/walk.rt:318:9
+stopped-at-requires : tie.Need-stopped-at-requires
+stopped-at-requires c κs = search needs
+
+-- src/walk.rt:318:9
+returns : tie.Need-returns
+unfolding viewOf
+returns c =     let s = c .before .before .before .before .before in
+    let v = view (s .args .image .now) in
+    let e = sym (c .before .before .before .be16 .ensures .0) ∙ c .before .before .if1 .taken in
+    let a = began s in
+    rw (c .stopped-at .ensures) (ended (s .args .image .now) _ _ (no-levels v _ e a) (c .before .closing-tests .ensures ∙ tree-none v (s .pre .few) (s .pre .shallow) _ a e))
+
+-- src/walk.rt:320:9
+be32-requires : tie.Need-be32-requires
+be32-requires c κs = search needs
+
+-- src/walk.rt:321:41
+sub-visit : tie.Need-sub-visit
+sub-visit c = search needs
+
+-- src/walk.rt:321:9
+visit-requires : tie.Need-visit-requires
+unfolding viewOf
+visit-requires c κs =     let s = c .before .before .before in
+    record { few = s .before .pre .few; shallow = s .before .pre .shallow; levels = omega arith; clear = refl; small = record { records = omega arith; nodes = omega (arith, s .before .pre .small) } }
+
+-- src/walk.rt:323:9
+returns-2 : tie.Need-returns-2
+returns-2 c =     let x = c .before .before in
+    let s = x .before .before .before .before .before in
+    let v = view (s .args .image .now) in
+    faulted (s .args .image .now) _ (c .if2 .taken)
+    (found-fault v (s .pre .few) (s .pre .shallow) (start s) _ (began s) (deep (x .before .before)) (walked x) (c .if2 .taken))
+
+-- src/walk.rt:325:9
+closing-tests-requires-2 : tie.Need-closing-tests-requires-2
+closing-tests-requires-2 c κs = search needs
+
+-- src/walk.rt:326:5
+stopped-at-requires-2 : tie.Need-stopped-at-requires-2
+stopped-at-requires-2 c κs = search needs
+
+-- src/walk.rt:302:1
+returns-3 : tie.Need-returns-3
+returns-3 c =     let x = c .before .before .before .before in
+    let s = x .before .before .before .before .before in
+    let v = view (s .args .image .now) in
+    let n = c .before .before .if2 .left in
+    rw (c .stopped-at2 .ensures)
+    (ended (s .args .image .now) _ _
+    (found-agree v (s .pre .few) (s .pre .shallow) (start s) _ (began s) (deep (x .before .before)) (walked x) n)
+    (c .before .closing-tests2 .ensures ∙ found-none v (s .pre .few) (s .pre .shallow) (start s) _ (began s) (deep (x .before .before)) (walked x) n))
+
+pub tree-tests-spec : {M : Type 1} → statement M
+tree-tests-spec =
+    tie.close
+    (tie.spec
+    be16-requires
+    closing-tests-requires
+    stopped-at-requires
+    returns
+    be32-requires
+    sub-visit
+    visit-requires
+    returns-2
+    closing-tests-requires-2
+    stopped-at-requires-2
+    returns-3)
