@@ -35,7 +35,7 @@ module _ (l : Layout) (img : List ℕ) where
   pub chain-nonzero : (n : ℕ) → n ∈ mapNodes l img → 0 < n
   chain-nonzero = along-nonzero (forwardOf l img) (totalOf img) (forwardOf l img 0)
 
-  chain-few : 0 < totalOf img → Distinct (mapNodes l img) → ((n : ℕ) → n ∈ mapNodes l img → n < totalOf img) → length (mapNodes l img) < totalOf img
+  pub chain-few : 0 < totalOf img → Distinct (mapNodes l img) → ((n : ℕ) → n ∈ mapNodes l img → n < totalOf img) → length (mapNodes l img) < totalOf img
   chain-few p d h =
       pigeon (totalOf img) (0 ∷ mapNodes l img)
       (λ m. let k = chain-nonzero 0 m in omega arith, d)

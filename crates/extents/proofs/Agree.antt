@@ -12,7 +12,7 @@ use lib.Dec.{eqb}
 use lib.ListN.{length, getD, set, length-set}
 use lib.Seq.{getD-set-same, getD-set-other}
 use borrow.Author.Tests.{eq-eqb, ne-eqb}
-use Rattle.image.specs.Bit.{bitOf}
+use Rattle.image.proofs.Laws.{marked-with}
 use Rattle.btree.specs.declared.Verdict.{Verdict}
 use Rattle.btree.specs.Lists.{_∈_}
 use Rattle.btree.specs.Decide.{cond, says, ifZero}
@@ -21,12 +21,13 @@ use Rattle.btree.specs.Walk.{fails, Entry, nodesOf, lastOn, firstOr, firstOn, r
 use Rattle.btree.proofs.Decisions.{said}
 use Rattle.btree.proofs.Clean.{test-zero}
 use Rattle.btree.proofs.TreeRules.{tree-deep}
+use Rattle.btree.proofs.Ordered.{if-zero, if-other}
 use Rattle.btree.proofs.MapBits.{bit-for, bit-not}
 use Rattle.extents.specs.declared.walk.Walk.{Walk}
 use Rattle.extents.specs.Inner.{pick, freshIn, stopped, firstWith, kept, landed, lastAt, step, steps, finish, met, Agrees}
-use Rattle.extents.proofs.Steps.{if-zero, if-other, steps-stuck}
+use Rattle.extents.proofs.Steps.{steps-stuck}
 use Rattle.extents.proofs.Fresh.{Free, free-says}
-use Rattle.extents.proofs.Marking.{marks-more}
+use Rattle.hfs.proofs.Marks.{marks-more}
 
 -- a step
 module _ (v : View) (w : Walk) (e : Entry) (t : Verdict) (clear : w .number ≡ 0) (is : t ≡ test v (freshIn (v .total) w (e .node)) (lastAt w (e .level)) e) where
@@ -85,7 +86,7 @@ module _ (v : View) (small : v .total ≤ 6000) (shallow : v .depth ≤ 8) where
         record {
           long = rw length-set (a .long);
           wide = rw length-set (a .wide);
-          marks = marks-more (w .visited .bits) (met v done) (e .node) room (a .marks);
+          marks = marks-more (w .visited .bits) _ (met v done) (e .node) (omega (arith, range)) (a .marks) (marked-with (w .visited .bits) (e .node) (omega (arith, range)) room);
           lasts = λ d l. last d l (ℕ-discrete (e .level) d);
           first = first (ℕ-discrete (e .level) (pred (v .depth)));
           records = records (ℕ-discrete (e .level) (pred (v .depth)));

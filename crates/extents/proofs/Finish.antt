@@ -10,11 +10,12 @@ use Rattle.btree.specs.declared.Verdict.{Verdict}
 use Rattle.btree.specs.Lists.{_∈_}
 use Rattle.btree.specs.Tree.{View, mapChain, treeNodes, reached}
 use Rattle.btree.specs.Walk.{fails, Entry, nodesOf, treeEntries, walk}
-use Rattle.btree.proofs.MapBits.{bit-same}
+use Rattle.hfs.specs.Frame.{Marks}
+use Rattle.hfs.proofs.Marks.{marks-same}
 use Rattle.btree.proofs.Reached.{tree-size, entry-reached, reached-entry}
 use Rattle.extents.specs.declared.walk.Walk.{Walk}
 use Rattle.extents.specs.Format.{view}
-use Rattle.extents.specs.Inner.{stopped, Marks, met, Agrees, Ends}
+use Rattle.extents.specs.Inner.{stopped, met, Agrees, Ends}
 use Rattle.extents.proofs.Agree.{onto}
 
 onto-mem : (n : ℕ) (es done : List Entry) → n ∈ nodesOf (onto es done) → (n ∈ nodesOf es) ⊎ (n ∈ nodesOf done)
@@ -53,7 +54,7 @@ module _ (v : View) where
       later = Memᴰ·append-right (nodesOf (onto (treeEntries v (v .depth)) []))
 
   pub marks-reached : (bits : List ℕ) → Marks bits (met v (onto (treeEntries v (v .depth)) [])) → Marks bits (reached v)
-  marks-reached bits a n = a n ∙ bit-same (met v (onto (treeEntries v (v .depth)) [])) (reached v) n (met-reached n) (reached-met n)
+  marks-reached bits = marks-same bits (met v (onto (treeEntries v (v .depth)) [])) (reached v) met-reached reached-met
 
   pub size-reached : length (met v (onto (treeEntries v (v .depth)) [])) ≡ length (reached v)
   size-reached =

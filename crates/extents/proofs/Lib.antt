@@ -1,7 +1,6 @@
 pub mod Closing
 pub mod Finish
 pub mod Agree
-pub mod Marking
 pub mod Room
 pub mod Fresh
 pub mod Links

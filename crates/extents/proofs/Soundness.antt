@@ -4,16 +4,12 @@ use mathlib.Core.Path.{_≡_}
 use mathlib.Core.Logic.{_↔_}
 use mathlib.Core.List.{List}
 use Prim.Native.Nat.{ℕ}
-use native.Mathlib.Omega.{arith}
-use Rattle.btree.specs.Layout.{Fits}
 use Rattle.btree.specs.Walk.{fine}
 use Rattle.btree.proofs.Soundness as theory
 use Rattle.hfs.specs.Hfs.{hfs}
+use Rattle.hfs.proofs.Hfs.{fits}
 use Rattle.extents.specs.Format.{format}
 use Rattle.extents.specs.Reader.{Sound, verdict}
-
-fits : Fits hfs
-fits = record { header = omega arith; node = omega arith }
 
 pub verdict-iff : (img : List ℕ) → (verdict img ≡ fine) ↔ Sound img
 verdict-iff img = theory.verdict-iff hfs fits img format

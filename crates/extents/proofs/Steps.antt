@@ -8,19 +8,11 @@ use native.Mathlib.Omega.{arith}
 use native.Mathlib.Numerals.{add-one}
 use Rattle.btree.specs.Lists.{span}
 use Rattle.btree.specs.Tree.{View}
-use Rattle.btree.specs.Decide.{ifZero}
 use Rattle.btree.specs.Walk.{Entry, above, entries}
+use Rattle.btree.proofs.Ordered.{if-other}
 use Rattle.extents.specs.declared.walk.Walk.{Walk}
 use Rattle.extents.specs.declared.walk.Pointer.{Pointer}
 use Rattle.extents.specs.Inner.{bound, step, steps, Points}
-
-pub if-zero : {A : Type 0} (n : ℕ) (a b : A) → n ≡ 0 → ifZero n a b ≡ a
-if-zero zero a b e = refl
-if-zero (suc n) a b e = absurd (omega arith)
-
-pub if-other : {A : Type 0} (n : ℕ) (a b : A) → (n ≡ 0 → ⊥) → ifZero n a b ≡ b
-if-other zero a b h = absurd (h refl)
-if-other (suc n) a b h = refl
 
 pub one-more : (n i : ℕ) → i < n → n - i ≡ suc (n - (i + 1))
 one-more n i h = omega arith

@@ -4,8 +4,6 @@ use mathlib.Core.Path.{_≡_, refl, sym}
 use mathlib.Core.Bool.{Bool, true, false}
 use Prim.Native.Nat.{ℕ}
 use native.Mathlib.Omega.{arith}
-use lib.Dec.{eqb}
-use borrow.Author.Tests.{eq-eqb, eqb-true}
 use Rattle.btree.specs.Decide.{says}
 use Rattle.btree.proofs.Decisions.{says-yes, says-no}
 use Rattle.extents.specs.Inner.{Tells}
@@ -23,6 +21,3 @@ told-no b t e p = let q = t .says p in let z : _≡_ {A = ℕ} 0 1 = cc in omega
 pub tells-says : {P Q : Type 0} (b : Bool) (d : Dec Q) → Tells b P → (P → Q) → (Q → P) → b ≡ says d
 tells-says true d t f g = sym (says-yes d (f (t .holds refl)))
 tells-says false d t f g = sym (says-no d (λ q. told-no false t refl (g q)))
-
-pub eqb-says : {Q : Type 0} (a b : ℕ) (d : Dec Q) → (a ≡ b → Q) → (Q → a ≡ b) → eqb a b ≡ says d
-eqb-says a b d f g = tells-says (eqb a b) d (record { holds = eqb-true a b; says = eq-eqb a b }) f g

@@ -13,7 +13,7 @@ use Rattle.btree.specs.declared.Verdict.{Verdict}
 use Rattle.btree.specs.Decide.{ifZero}
 use Rattle.btree.specs.Tree.{View, mapChain, reached}
 use Rattle.btree.specs.Walk.{Entry, nodesOf, lastOn, firstOr, firstOn, recordsOn, above, fails, test, closing, walk}
-use Rattle.btree.specs.Tests.{bitFor}
+use Rattle.hfs.specs.Frame.{Marks}
 use Rattle.extents.specs.declared.walk.Walk.{Walk}
 use Rattle.extents.specs.declared.walk.Pointer.{Pointer}
 use Rattle.extents.specs.Format.{view}
@@ -113,10 +113,6 @@ pub record Points (v : View) (n i high : ℕ) (p : Pointer) : Type 0 where
 
 abbrev pub entry : ℕ → ℕ → ℕ → ℕ → ℕ → Entry
 entry n parent d low high = record { node = n; parent = parent; level = d; low = low; high = bound high }
-
--- the bits set are those of these nodes
-abbrev pub Marks : List ℕ → List ℕ → Type 0
-Marks bits nodes = (n : ℕ) → bitOf bits n ≡ bitFor nodes n
 
 -- the nodes met, with the header and the map chain
 abbrev pub met : View → List Entry → List ℕ

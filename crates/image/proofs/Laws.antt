@@ -15,7 +15,7 @@ use lib.Pow.{pow-pos, pow-add, pow-lt}
 use lib.Seq.{getD-set-same, getD-set-other}
 use Rattle.image.specs.Bytes.{be16At, be32At}
 use Rattle.image.specs.Bit.{bitOf}
-use Rattle.image.specs.Set.{member, either, marks, withBit}
+use Rattle.image.specs.Set.{member, either, marks, withBit, Marked}
 
 -- past the end a byte is 0, and so is a number
 pub byte-beyond : (bytes : List ℕ) (at : ℕ) → length bytes ≤ at → getD bytes at 0 ≡ 0
@@ -151,3 +151,7 @@ marks-within n m h = rw (lt-ltb _ _ h)
 pub marks-beyond : (n m : ℕ) → 6000 ≤ n → marks n m ≡ false
 unfolding marks
 marks-beyond n m h = rw (le-ltb _ _ h)
+
+-- setting the bit of n marks it
+pub marked-with : (bytes : List ℕ) (n : ℕ) → n < 6000 → n / 8 < length bytes → Marked bytes n (withBit bytes n)
+marked-with bytes n u h = record { asSet = λ m. rw (marks-within n m u) (member-mark bytes n m h); asBytes = λ w. refl }

@@ -1,8 +1,7 @@
-use Rattle.btree.proofs.Decisions.{says-yes}
+use Rattle.btree.proofs.Decisions.{says-yes, says-equal}
 use mathlib.Core.Logic.{inl, inr, ⊎-elim}
 use mathlib.Core.Path.{sym}
 use Rattle.extents.specs.Key.{decLawful}
-use Rattle.extents.proofs.Telling.{eqb-says}
 use borrow.Author.Needs.{needs}
 use Rattle.extents.proofs.key.is_lawful.Statement.{statement}
 use Rattle.extents.proofs.key.is_lawful.Tie as tie
@@ -15,7 +14,7 @@ returns c = sym (says-yes (decLawful _) (inl (c .if1 .taken)))
 
 -- src/key.rt:10:1
 returns-2 : tie.Need-returns-2
-returns-2 c = eqb-says _ _ (decLawful _) inr (⊎-elim (λ e. absurd (c .if1 .left e)) (λ e. e))
+returns-2 c = says-equal (decLawful _) _ _ inr (⊎-elim (λ e. absurd (c .if1 .left e)) (λ e. e))
 
 pub is-lawful-spec : {M : Type 1} → statement M
 is-lawful-spec = tie.close (tie.spec returns returns-2)
