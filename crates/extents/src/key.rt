@@ -4,7 +4,9 @@ ghost use Prim.Native.Nat.{_<_};
 ghost use Rattle.btree.specs.Decide.{says};
 ghost use Rattle.extents.specs.Key.{decLawful, packed, keyAt};
 ghost use Rattle.extents.specs.Reader.{asked};
-use image::bytes::{be16, be32, byte_at};
+use image::bytes::be16;
+use image::bytes::be32;
+use image::bytes::byte_at;
 
 // The fork bytes 00 and FF are lawful.
 pub fn is_lawful(fork: u32) -> bool

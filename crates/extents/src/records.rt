@@ -8,9 +8,14 @@ ghost use Rattle.btree.specs.Walk.{decOrdered};
 ghost use Rattle.extents.specs.Key.{Lawful};
 ghost use Rattle.extents.specs.Format.{recordSize, maxRecords, recordAt, decRecords, view};
 ghost use Rattle.extents.specs.Inner.{Tells, bound};
-use super::key::{is_lawful, key_at};
-use hfs::node::{count_of, kind_of, reserved_of};
-use image::bytes::{be16, be32, byte_at};
+use super::key::is_lawful;
+use super::key::key_at;
+use hfs::node::count_of;
+use hfs::node::kind_of;
+use hfs::node::reserved_of;
+use image::bytes::be16;
+use image::bytes::be32;
+use image::bytes::byte_at;
 
 // Bytes of a record.
 fn record_size(kind: u32) -> u32

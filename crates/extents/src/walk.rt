@@ -6,11 +6,20 @@ ghost use Rattle.btree.specs.Header.{depthOf};
 ghost use Rattle.btree.specs.Walk.{decLeads, decTotals, test, closing, entries};
 ghost use Rattle.extents.specs.Format.{kindOn, view};
 ghost use Rattle.extents.specs.Inner.{pick, bound, freshIn, stopped, firstWith, kept, lastAt, step, steps, Keepable, Ready, Gives, Points, entry, Begins, Ends};
-use super::records::{child_of, key_of, keys_ordered, records_right};
+use super::records::child_of;
+use super::records::key_of;
+use super::records::keys_ordered;
+use super::records::records_right;
 use btree::Verdict;
-use hfs::node::{back_of, count_of, forward_of, level_of};
-use image::bytes::{be16, be32, bit_at};
-use image::visited::{mark, Visited};
+use hfs::node::back_of;
+use hfs::node::count_of;
+use hfs::node::forward_of;
+use hfs::node::level_of;
+use image::bytes::be16;
+use image::bytes::be32;
+use image::bytes::bit_at;
+use image::visited::Visited;
+use image::visited::mark;
 
 // The nodes met, with the header and the map chain, and what the tests at the end ask of them.
 pub struct Walk {
@@ -81,15 +90,7 @@ fn leads(image: &[u8], p: u32, node: u32) -> bool
 }
 
 // The tests at a node: 4, 5, 6, 7.
-fn tested(
-    image: &[u8],
-    w: Walk,
-    node: u32,
-    parent: u32,
-    level: u32,
-    low: u64,
-    high: u64,
-) -> Verdict
+fn tested(image: &[u8], w: Walk, node: u32, parent: u32, level: u32, low: u64, high: u64) -> Verdict
     requires { ⌜ level < 8 ⌝ }
     ensures { λ r. ⌜ r ≡ test (view (now (image .entry))) (freshIn (view (now (image .entry)) .total) w node) (lastAt w level) (entry node parent level low high) ⌝ }
 {

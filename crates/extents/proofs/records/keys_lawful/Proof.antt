@@ -18,7 +18,7 @@ use Rattle.extents.proofs.records.record_at.Reads as record-at-reads
 use Rattle.image.proofs.bytes.byte_at.Reads as byte-at-reads
 
 abbrev Inv-loop : tie.InvT-loop
-Inv-loop image node c i₀ i =     (i ≤ c) × ((j : ℕ) → j < i → (getD image (recordAt image node j) 0 ≡ 7) × Lawful (getD image (recordAt image node j + 1) 0))
+Inv-loop image node c i₀ i = (i ≤ c) × ((j : ℕ) → j < i → (getD image (recordAt image node j) 0 ≡ 7) × Lawful (getD image (recordAt image node j + 1) 0))
 
 abbrev μ-loop : tie.MeasureT-loop
 μ-loop image node c i₀ i = c - i
@@ -37,7 +37,7 @@ byte-at-requires c κs = search needs
 
 -- src/records.rt:83:13
 returns : tie.Need-returns Inv-loop μ-loop
-returns c =     let l = c .before .before .before .before .loop in
+returns c = let l = c .before .before .before .before .loop in
     tells-no (λ f. c .if1 .taken (c .before .byte-at .ensures .0 ∙ rw (c .before .before .record-at .ensures .0) (f (l .i) (omega arith) .0)))
 
 -- src/records.rt:85:38
@@ -54,7 +54,7 @@ is-lawful-requires c κs = search needs
 
 -- src/records.rt:86:13
 returns-2 : tie.Need-returns-2 Inv-loop μ-loop
-returns-2 c =     let l = c .before .before .before .before .before .before .before .loop in
+returns-2 c = let l = c .before .before .before .before .before .before .before .loop in
     tells-no (λ f. unsaid (decLawful _) (sym (c .before .is-lawful .ensures) ∙ not-true _ (c .if2 .taken))
     (rw (c .before .before .byte-at2 .ensures .0, c .before .before .before .before .before .record-at .ensures .0) (f (l .i) (omega arith) .1)))
 
@@ -68,7 +68,7 @@ loop-less c = search needs
 
 -- src/records.rt:80:5
 loop-again : tie.Need-loop-again Inv-loop μ-loop
-loop-again c =     let l = c .before .before .before .before .before .before .before .loop in
+loop-again c = let l = c .before .before .before .before .before .before .before .loop in
     let e = c .before .before .before .before .before .record-at .ensures .0 in (
       search needs,
       below-more _ _ (l .inv .1) (

@@ -14,7 +14,7 @@ use Rattle.extents.proofs.records.offsets_right.Lts as lts
 use Rattle.image.proofs.bytes.be16.Reads as be16-reads
 
 abbrev Inv-loop : tie.InvT-loop
-Inv-loop image node c size base want₀ i₀ want i =     (i ≤ c + 1) × (want ≡ 14 + i * size) × (want ≤ 14 + 20 * i) × ((j : ℕ) → j < i → be16At image (node * 512 + (510 - 2 * j)) ≡ 14 + j * size)
+Inv-loop image node c size base want₀ i₀ want i = (i ≤ c + 1) × (want ≡ 14 + i * size) × (want ≤ 14 + 20 * i) × ((j : ℕ) → j < i → be16At image (node * 512 + (510 - 2 * j)) ≡ 14 + j * size)
 
 abbrev μ-loop : tie.MeasureT-loop
 μ-loop image node c size base want₀ i₀ want i = c + 1 - i
@@ -49,7 +49,7 @@ be16-requires c κs = search needs
 
 -- src/records.rt:66:13
 returns : tie.Need-returns Inv-loop μ-loop
-returns c =     let l = c .before .before .before .loop in
+returns c = let l = c .before .before .before .loop in
     tells-no (λ f. c .if1 .taken (c .before .be16 .ensures .0 ∙ f (l .i) (omega arith) ∙ sym (l .inv .1)))
 
 -- src/records.rt:68:9
@@ -66,7 +66,7 @@ loop-less c = search needs
 
 -- src/records.rt:64:5
 loop-again : tie.Need-loop-again Inv-loop μ-loop
-loop-again c =     let l = c .before .before .before .loop in
+loop-again c = let l = c .before .before .before .loop in
     let e = suc-mul (l .i) (c .before .before .before .before .before .args .size) in (
       search needs,
       rw (add-one (l .i)) (omega arith),

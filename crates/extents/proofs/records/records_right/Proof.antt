@@ -60,7 +60,7 @@ offsets-right-requires c κs = search needs
 
 -- src/records.rt:111:9
 returns-5 : tie.Need-returns-5
-returns-5 c =     sym (says-no (decRecords _ _ _) (λ r. told-no _ (c .before .offsets-right .ensures) (not-true _ (c .if5 .taken))
+returns-5 c = sym (says-no (decRecords _ _ _) (λ r. told-no _ (c .before .offsets-right .ensures) (not-true _ (c .if5 .taken))
     (rw (c .before .before .record-size .ensures .0, c .before .before .before .before .before .before .count-of .ensures .0) (r .offsets))))
 
 -- src/records.rt:113:5
@@ -70,7 +70,7 @@ keys-lawful-requires c κs = search needs
 -- src/records.rt:94:1
 returns-6 : tie.Need-returns-6
 unfolding kindOf
-returns-6 c =     let o = c .before .before in
+returns-6 c = let o = c .before .before in
     let s = o .before in
     let n = s .before .before .before .before in
     tells-says _ (decRecords _ _ _) (c .keys-lawful .ensures)

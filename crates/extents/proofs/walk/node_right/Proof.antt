@@ -35,7 +35,7 @@ records-right-requires c κs = search needs
 -- src/walk.rt:46:1
 returns-2 : tie.Need-returns-2
 unfolding viewOf
-returns-2 c =     c .records-right .ensures
+returns-2 c = c .records-right .ensures
     ∙ rw (c .before .kind-on .ensures)
     (says-same (decRecords _ _ _) (decNodeOn _ _ _ _)
     (λ r. record { level = sym (c .before .before .before .level-of .ensures .0) ∙ c .before .before .if1 .left; records = r })

@@ -58,7 +58,7 @@ stopped-at-requires c κs = search needs
 -- src/walk.rt:318:9
 returns : tie.Need-returns
 unfolding viewOf
-returns c =     let s = c .before .before .before .before .before in
+returns c = let s = c .before .before .before .before .before in
     let v = view (s .args .image .now) in
     let e = sym (c .before .before .before .be16 .ensures .0) ∙ c .before .before .if1 .taken in
     let a = began s in
@@ -75,12 +75,12 @@ sub-visit c = search needs
 -- src/walk.rt:321:9
 visit-requires : tie.Need-visit-requires
 unfolding viewOf
-visit-requires c κs =     let s = c .before .before .before in
+visit-requires c κs = let s = c .before .before .before in
     record { few = s .before .pre .few; shallow = s .before .pre .shallow; levels = omega arith; clear = refl; small = record { records = omega arith; nodes = omega (arith, s .before .pre .small) } }
 
 -- src/walk.rt:323:9
 returns-2 : tie.Need-returns-2
-returns-2 c =     let x = c .before .before in
+returns-2 c = let x = c .before .before in
     let s = x .before .before .before .before .before in
     let v = view (s .args .image .now) in
     faulted (s .args .image .now) _ (c .if2 .taken)
@@ -96,7 +96,7 @@ stopped-at-requires-2 c κs = search needs
 
 -- src/walk.rt:302:1
 returns-3 : tie.Need-returns-3
-returns-3 c =     let x = c .before .before .before .before in
+returns-3 c = let x = c .before .before .before .before in
     let s = x .before .before .before .before .before in
     let v = view (s .args .image .now) in
     let n = c .before .before .if2 .left in

@@ -1,0 +1,122 @@
+use mathlib.Core.List.{[]}
+use mathlib.Core.Bool.{true}
+use mathlib.Core.Path.{_≡_, sym, ap, _∙_}
+use borrow.Author.Tests.{not-true, not-false}
+use Rattle.btree.specs.Tests.{decLengths, decHeaderNode, chainFrom}
+use Rattle.btree.specs.Walk.{walk}
+use Rattle.btree.specs.Header.{mapNodes}
+use Rattle.btree.specs.Decide.{says}
+use Rattle.btree.specs.declared.Verdict.{Verdict}
+use Rattle.btree.proofs.Ordered.{fault-1, fault-2, fault-3, fault-tree, fault-map}
+use Rattle.hfs.specs.Hfs.{hfs}
+use Rattle.extents.specs.Format.{format, view}
+use Rattle.extents.proofs.Soundness.{both}
+use Rattle.extents.proofs.Framing.{few, framed, begins}
+use borrow.Author.Needs.{needs}
+use Rattle.extents.proofs.check.Statement.{statement}
+use Rattle.extents.proofs.check.Tie as tie
+use Rattle.extents.proofs.check.Reads as reads
+use Rattle.extents.proofs.check.Lts as lts
+use Rattle.extents.proofs.walk.tree_tests.Reads as tree-tests-reads
+use Rattle.hfs.proofs.header.header_right.Reads as header-right-reads
+use Rattle.hfs.proofs.header.length_right.Reads as length-right-reads
+use Rattle.hfs.proofs.map.map_chain.Reads as map-chain-reads
+use Rattle.hfs.proofs.map.map_tests.Reads as map-tests-reads
+
+-- what each test that passed says
+length-passed : (c : tie.Else1) → says (decLengths hfs (c .before .before .before .args .image .now)) ≡ true
+length-passed c = sym (c .before .length-right .ensures) ∙ not-false _ (c .if1 .left)
+
+header-passed : (c : tie.Else2) → says (decHeaderNode hfs (c .before .before .before .before .before .args .image .now) 7) ≡ true
+header-passed c = sym (c .before .header-right .ensures) ∙ not-false _ (c .if2 .left)
+
+chain-passed : (c : tie.Else3) → let img = c .before .before .before .before .before .before .before .before .args .image .now in
+    chainFrom hfs img [] 0 (mapNodes hfs img) .number ≡ 0
+chain-passed c = sym (ap (λ (t : Verdict). t .number) (c .before .before .map-chain .ensures .verdict)) ∙ c .if3 .left
+
+tree-passed : (c : tie.Else4) → let img = c .before .before .before .before .before .before .before .before .before .before .before .before .args .image .now in
+    walk (view img) .number ≡ 0
+tree-passed c = sym (ap (λ (t : Verdict). t .number) (c .before .before .tree-tests .ensures .verdict)) ∙ c .if4 .left
+
+-- src/lib.rt:21:9
+length-right-requires : tie.Need-length-right-requires
+length-right-requires c κs = search needs
+
+-- src/lib.rt:22:9
+returns : tie.Need-returns
+returns c =     let img = c .before .before .before .args .image .now in
+    both img _ (sym (fault-1 hfs img format (sym (c .before .length-right .ensures) ∙ not-true _ (c .if1 .taken))))
+
+-- src/lib.rt:27:9
+header-right-requires : tie.Need-header-right-requires
+header-right-requires c κs = search needs
+
+-- src/lib.rt:28:9
+returns-2 : tie.Need-returns-2
+returns-2 c =     let a = c .before .before in
+    let img = a .before .before .before .args .image .now in
+    both img _ (sym (fault-2 hfs img format (length-passed a) (sym (c .before .header-right .ensures) ∙ not-true _ (c .if2 .taken))))
+
+-- src/lib.rt:33:9
+map-chain-requires : tie.Need-map-chain-requires
+map-chain-requires c κs =     let b = c in
+    let a = b .before .before in
+    few (a .before .before .before .args .image .now) (length-passed a) (header-passed b)
+
+-- src/lib.rt:35:9
+returns-3 : tie.Need-returns-3
+returns-3 c =     let b = c .before .before .before in
+    let a = b .before .before in
+    let img = a .before .before .before .args .image .now in
+    let e = c .before .before .map-chain .ensures .verdict in
+    both img _ (e ∙ sym (fault-3 hfs img format (length-passed a) (header-passed b) (λ z. c .if3 .taken (ap (λ (t : Verdict). t .number) e ∙ z))))
+
+-- src/lib.rt:41:9
+tree-tests-requires : tie.Need-tree-tests-requires
+tree-tests-requires c κs =     let x = c .before in
+    let b = x .before .before .before in
+    let a = b .before .before in
+    begins (a .before .before .before .args .image .now) (length-passed a) (header-passed b) (chain-passed x) _ (x .before .before .map-chain .ensures) (x .if3 .left)
+
+-- src/lib.rt:43:9
+returns-4 : tie.Need-returns-4
+returns-4 c =     let x = c .before .before .before .before in
+    let b = x .before .before .before in
+    let a = b .before .before in
+    let img = a .before .before .before .args .image .now in
+    let e = c .before .before .tree-tests .ensures .verdict in
+    both img _ (e ∙ sym (fault-tree hfs img format (length-passed a) (header-passed b) (chain-passed x) (λ z. c .if4 .taken (ap (λ (t : Verdict). t .number) e ∙ z))))
+
+-- src/lib.rt:49:5
+map-tests-requires : tie.Need-map-tests-requires
+map-tests-requires c κs =     let x = c .before .before .before .before .before in
+    let b = x .before .before .before in
+    let a = b .before .before in
+    framed (a .before .before .before .args .image .now) (length-passed a) (header-passed b) (chain-passed x)
+
+-- src/lib.rt:17:1
+returns-5 : tie.Need-returns-5
+returns-5 c =     let y = c .before .before in
+    let x = y .before .before .before .before in
+    let b = x .before .before .before in
+    let a = b .before .before in
+    let img = a .before .before .before .args .image .now in
+    let t = y .before .before .tree-tests .ensures in
+    both img _
+    (c .map-tests .ensures _ (t .marks (y .if4 .left)) (t .count (y .if4 .left))
+    ∙ sym (fault-map hfs img format (length-passed a) (header-passed b) (chain-passed x) (tree-passed y)))
+
+pub check-spec : {M : Type 1} → statement M
+check-spec =
+    tie.close
+    (tie.spec
+    length-right-requires
+    returns
+    header-right-requires
+    returns-2
+    map-chain-requires
+    returns-3
+    tree-tests-requires
+    returns-4
+    map-tests-requires
+    returns-5)
