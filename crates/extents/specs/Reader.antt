@@ -3,11 +3,13 @@
 use mathlib.Core.Logic.{Dec·and}
 use mathlib.Core.Option.{Option, none, some}
 use mathlib.Core.List.{List}
-use Prim.Native.Nat.{ℕ, zero, suc, _-_, _*_, _/_, _<_}
+use Prim.Native.Nat.{ℕ, zero, suc, _+_, _-_, _*_, _/_, _<_}
 use native.Mathlib.Omega.{arith}
 use native.Mathlib.Decide.{decLe}
 use lib.ListN.{length}
 use Rattle.btree.specs.declared.Verdict.{Verdict}
+use Rattle.btree.specs.declared.Answer.{Answer}
+use Rattle.btree.specs.declared.Answer.the-variants as answer
 use Rattle.btree.specs.declared.Lookup.{Lookup}
 use Rattle.btree.specs.declared.Salvage.{Salvage}
 use Rattle.btree.specs.declared.Salvage.the-variants.{Seen, NotSeen, Refused}
@@ -20,7 +22,7 @@ use Rattle.btree.specs.Tests as tests
 use Rattle.extents.specs.Key.{Key, packed, decLawful}
 use Rattle.btree.specs.Header.{countOf, viewOf}
 use Rattle.hfs.specs.Hfs.{hfs}
-use Rattle.extents.specs.Format.{leafKind, keyOf, Records, decRecords, format, view}
+use Rattle.extents.specs.Format.{leafKind, recordAt, keyOf, Records, decRecords, format, view}
 
 abbrev pub Sound : List ℕ → Type 0
 Sound img = image.Sound hfs img format
@@ -41,6 +43,27 @@ asked file fork start = record { file = file; fork = fork; start = start }
 
 abbrev pub lookup : List ℕ → Key → Lookup
 lookup img k = search.lookupOf (view img) (verdict img) (decLawful (k .fork)) (packed k)
+
+-- where the data of record i of the node n starts: "key and 12 bytes"
+abbrev pub dataAt : List ℕ → ℕ → ℕ → ℕ
+dataAt img n i = recordAt img n i + 8
+
+-- a part of the image: where it starts and how many bytes it has
+pub record Part : Type 0 where
+  pub at : ℕ
+  pub size : ℕ
+
+abbrev pub emptyPart : Part
+emptyPart = record { at = 0; size = 0 }
+
+abbrev pub dataPart : List ℕ → ℕ → ℕ → Part
+dataPart img n i = record { at = dataAt img n i; size = 12 }
+
+-- "Found hands back the 12 data bytes as a part of the image; every other answer hands back the empty part at its start."
+abbrev pub foundPart : List ℕ → Answer → Part
+foundPart img (answer.Found n i) = dataPart img n i
+foundPart img (answer.Absent n) = emptyPart
+foundPart img (answer.Refused number place) = emptyPart
 
 -- "a node counts if it is kind FF, passes the tests of 5 without the level, and its keys strictly ascend"
 pub record WholeLeaf (img : List ℕ) (n : ℕ) : Type 0 where
@@ -71,3 +94,9 @@ salvage img k =
     cond (decLawful (k .fork))
     (cond (decLe (length img) (hfs .maxNodes * hfs .nodeSize)) (seenFrom img (packed k) 1 (length img / hfs .nodeSize - 1)) (Refused 1 0))
     (Refused 11 0)
+
+-- "The first match is seen, data as a part of the image."
+abbrev pub seenPart : List ℕ → Salvage → Part
+seenPart img (Seen n i) = dataPart img n i
+seenPart img NotSeen = emptyPart
+seenPart img (Refused number place) = emptyPart

@@ -1,3 +1,4 @@
+-- `check` meets its contract. Assumes nothing.
 use mathlib.Core.List.{[]}
 use mathlib.Core.Bool.{true}
 use mathlib.Core.Path.{_≡_, sym, ap, _∙_}
@@ -15,13 +16,6 @@ use Rattle.extents.proofs.Framing.{few, framed, begins}
 use borrow.Author.Needs.{needs}
 use Rattle.extents.proofs.check.Statement.{statement}
 use Rattle.extents.proofs.check.Tie as tie
-use Rattle.extents.proofs.check.Reads as reads
-use Rattle.extents.proofs.check.Lts as lts
-use Rattle.extents.proofs.walk.tree_tests.Reads as tree-tests-reads
-use Rattle.hfs.proofs.header.header_right.Reads as header-right-reads
-use Rattle.hfs.proofs.header.length_right.Reads as length-right-reads
-use Rattle.hfs.proofs.map.map_chain.Reads as map-chain-reads
-use Rattle.hfs.proofs.map.map_tests.Reads as map-tests-reads
 
 -- what each test that passed says
 length-passed : (c : tie.Else1) → says (decLengths hfs (c .before .before .before .args .image .now)) ≡ true
@@ -38,32 +32,26 @@ tree-passed : (c : tie.Else4) → let img = c .before .before .before .before .b
     walk (view img) .number ≡ 0
 tree-passed c = sym (ap (λ (t : Verdict). t .number) (c .before .before .tree-tests .ensures .verdict)) ∙ c .if4 .left
 
--- src/lib.rt:21:9
 length-right-requires : tie.Need-length-right-requires
 length-right-requires c κs = search needs
 
--- src/lib.rt:22:9
 returns : tie.Need-returns
 returns c =     let img = c .before .before .before .args .image .now in
     both img _ (sym (fault-1 hfs img format (sym (c .before .length-right .ensures) ∙ not-true _ (c .if1 .taken))))
 
--- src/lib.rt:27:9
 header-right-requires : tie.Need-header-right-requires
 header-right-requires c κs = search needs
 
--- src/lib.rt:28:9
 returns-2 : tie.Need-returns-2
 returns-2 c =     let a = c .before .before in
     let img = a .before .before .before .args .image .now in
     both img _ (sym (fault-2 hfs img format (length-passed a) (sym (c .before .header-right .ensures) ∙ not-true _ (c .if2 .taken))))
 
--- src/lib.rt:33:9
 map-chain-requires : tie.Need-map-chain-requires
 map-chain-requires c κs =     let b = c in
     let a = b .before .before in
     few (a .before .before .before .args .image .now) (length-passed a) (header-passed b)
 
--- src/lib.rt:35:9
 returns-3 : tie.Need-returns-3
 returns-3 c =     let b = c .before .before .before in
     let a = b .before .before in
@@ -71,14 +59,12 @@ returns-3 c =     let b = c .before .before .before in
     let e = c .before .before .map-chain .ensures .verdict in
     both img _ (e ∙ sym (fault-3 hfs img format (length-passed a) (header-passed b) (λ z. c .if3 .taken (ap (λ (t : Verdict). t .number) e ∙ z))))
 
--- src/lib.rt:41:9
 tree-tests-requires : tie.Need-tree-tests-requires
 tree-tests-requires c κs =     let x = c .before in
     let b = x .before .before .before in
     let a = b .before .before in
     begins (a .before .before .before .args .image .now) (length-passed a) (header-passed b) (chain-passed x) _ (x .before .before .map-chain .ensures) (x .if3 .left)
 
--- src/lib.rt:43:9
 returns-4 : tie.Need-returns-4
 returns-4 c =     let x = c .before .before .before .before in
     let b = x .before .before .before in
@@ -87,14 +73,12 @@ returns-4 c =     let x = c .before .before .before .before in
     let e = c .before .before .tree-tests .ensures .verdict in
     both img _ (e ∙ sym (fault-tree hfs img format (length-passed a) (header-passed b) (chain-passed x) (λ z. c .if4 .taken (ap (λ (t : Verdict). t .number) e ∙ z))))
 
--- src/lib.rt:49:5
 map-tests-requires : tie.Need-map-tests-requires
 map-tests-requires c κs =     let x = c .before .before .before .before .before in
     let b = x .before .before .before in
     let a = b .before .before in
     framed (a .before .before .before .args .image .now) (length-passed a) (header-passed b) (chain-passed x)
 
--- src/lib.rt:17:1
 returns-5 : tie.Need-returns-5
 returns-5 c =     let y = c .before .before in
     let x = y .before .before .before .before in

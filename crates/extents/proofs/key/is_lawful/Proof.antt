@@ -1,18 +1,14 @@
+-- `key::is_lawful` meets its contract. Assumes nothing.
 use Rattle.btree.proofs.Decisions.{says-yes, says-equal}
 use mathlib.Core.Logic.{inl, inr, ⊎-elim}
 use mathlib.Core.Path.{sym}
 use Rattle.extents.specs.Key.{decLawful}
-use borrow.Author.Needs.{needs}
 use Rattle.extents.proofs.key.is_lawful.Statement.{statement}
 use Rattle.extents.proofs.key.is_lawful.Tie as tie
-use Rattle.extents.proofs.key.is_lawful.Reads as reads
-use Rattle.extents.proofs.key.is_lawful.Lts as lts
 
--- src/key.rt:14:9
 returns : tie.Need-returns
 returns c = sym (says-yes (decLawful _) (inl (c .if1 .taken)))
 
--- src/key.rt:10:1
 returns-2 : tie.Need-returns-2
 returns-2 c = says-equal (decLawful _) _ _ inr (⊎-elim (λ e. absurd (c .if1 .left e)) (λ e. e))
 

@@ -1,28 +1,22 @@
+-- `key::pack` meets its contract. Assumes nothing.
 use native.Mathlib.Omega.{arith}
 use Rattle.extents.specs.Key.{packed}
 use borrow.Author.Needs.{needs}
 use Rattle.extents.proofs.key.pack.Statement.{statement}
 use Rattle.extents.proofs.key.pack.Tie as tie
-use Rattle.extents.proofs.key.pack.Reads as reads
-use Rattle.extents.proofs.key.pack.Lts as lts
 
--- src/key.rt:12:5
 mul-result : tie.Need-mul-result
 mul-result c = search needs
 
--- src/key.rt:12:34
 mul-result-2 : tie.Need-mul-result-2
 mul-result-2 c = search needs
 
--- src/key.rt:12:5
 add-result : tie.Need-add-result
 add-result c = search needs
 
--- src/key.rt:12:5
 add-result-2 : tie.Need-add-result-2
 add-result-2 c = search needs
 
--- src/key.rt:9:1
 returns : tie.Need-returns
 unfolding packed
 returns c = (search needs, omega arith)

@@ -1,8 +1,9 @@
+-- `records::keys_lawful` meets its contract. Assumes nothing.
 use native.Mathlib.Omega.{arith}
 use Prim.Native.Nat.{ℕ, _+_, _-_, _<_, _≤_}
 use lib.ListN.{getD}
 use Rattle.btree.proofs.Decisions.{said, unsaid}
-use mathlib.Core.Path.{_≡_, sym, ap, _∙_}
+use mathlib.Core.Path.{_≡_, sym, _∙_}
 use borrow.Author.Tests.{not-true, not-false}
 use borrow.Author.Count.{below-more}
 use Rattle.extents.specs.Format.{recordAt}
@@ -11,11 +12,6 @@ use Rattle.extents.proofs.Telling.{tells-yes, tells-no}
 use borrow.Author.Needs.{needs}
 use Rattle.extents.proofs.records.keys_lawful.Statement.{statement}
 use Rattle.extents.proofs.records.keys_lawful.Tie as tie
-use Rattle.extents.proofs.records.keys_lawful.Reads as reads
-use Rattle.extents.proofs.records.keys_lawful.Lts as lts
-use Rattle.extents.proofs.key.is_lawful.Reads as is-lawful-reads
-use Rattle.extents.proofs.records.record_at.Reads as record-at-reads
-use Rattle.image.proofs.bytes.byte_at.Reads as byte-at-reads
 
 abbrev Inv-loop : tie.InvT-loop
 Inv-loop image node c i₀ i = (i ≤ c) × ((j : ℕ) → j < i → (getD image (recordAt image node j) 0 ≡ 7) × Lawful (getD image (recordAt image node j + 1) 0))
@@ -23,50 +19,39 @@ Inv-loop image node c i₀ i = (i ≤ c) × ((j : ℕ) → j < i → (getD image
 abbrev μ-loop : tie.MeasureT-loop
 μ-loop image node c i₀ i = c - i
 
--- src/records.rt:80:5
 loop-holds : tie.Need-loop-holds Inv-loop μ-loop
 loop-holds c = (search needs, λ j h. absurd (omega arith))
 
--- src/records.rt:81:13
 record-at-requires : tie.Need-record-at-requires Inv-loop μ-loop
 record-at-requires c κs = search needs
 
--- src/records.rt:82:12
 byte-at-requires : tie.Need-byte-at-requires Inv-loop μ-loop
 byte-at-requires c κs = search needs
 
--- src/records.rt:83:13
 returns : tie.Need-returns Inv-loop μ-loop
 returns c = let l = c .before .before .before .before .loop in
     tells-no (λ f. c .if1 .taken (c .before .byte-at .ensures .0 ∙ rw (c .before .before .record-at .ensures .0) (f (l .i) (omega arith) .0)))
 
--- src/records.rt:85:38
 add-byte-at : tie.Need-add-byte-at Inv-loop μ-loop
 add-byte-at c = search needs
 
--- src/records.rt:85:23
 byte-at-requires-2 : tie.Need-byte-at-requires-2 Inv-loop μ-loop
 byte-at-requires-2 c κs = search needs
 
--- src/records.rt:85:13
 is-lawful-requires : tie.Need-is-lawful-requires Inv-loop μ-loop
 is-lawful-requires c κs = search needs
 
--- src/records.rt:86:13
 returns-2 : tie.Need-returns-2 Inv-loop μ-loop
 returns-2 c = let l = c .before .before .before .before .before .before .before .loop in
     tells-no (λ f. unsaid (decLawful _) (sym (c .before .is-lawful .ensures) ∙ not-true _ (c .if2 .taken))
     (rw (c .before .before .byte-at2 .ensures .0, c .before .before .before .before .before .record-at .ensures .0) (f (l .i) (omega arith) .1)))
 
--- src/records.rt:88:9
 add-i : tie.Need-add-i Inv-loop μ-loop
 add-i c = search needs
 
--- src/records.rt:80:5
 loop-less : tie.Need-loop-less Inv-loop μ-loop
 loop-less c = search needs
 
--- src/records.rt:80:5
 loop-again : tie.Need-loop-again Inv-loop μ-loop
 loop-again c = let l = c .before .before .before .before .before .before .before .loop in
     let e = c .before .before .before .before .before .record-at .ensures .0 in (
@@ -77,7 +62,6 @@ loop-again c = let l = c .before .before .before .before .before .before .before
       ),
     )
 
--- src/records.rt:75:1
 returns-3 : tie.Need-returns-3 Inv-loop μ-loop
 returns-3 c = tells-yes (λ j h. c .before .loop .inv .1 j (omega arith))
 

@@ -1,17 +1,13 @@
+-- `records::max_records` meets its contract. Assumes nothing.
 use native.Mathlib.Omega.{arith}
 use mathlib.Core.Path.{sym}
 use Rattle.extents.proofs.Sizes.{max-leaf, max-index}
-use borrow.Author.Needs.{needs}
 use Rattle.extents.proofs.records.max_records.Statement.{statement}
 use Rattle.extents.proofs.records.max_records.Tie as tie
-use Rattle.extents.proofs.records.max_records.Reads as reads
-use Rattle.extents.proofs.records.max_records.Lts as lts
 
--- src/records.rt:23:1
 returns : tie.Need-returns
 returns c = (sym (max-leaf _ (c .if1 .taken)), omega arith)
 
--- src/records.rt:23:1
 returns-2 : tie.Need-returns-2
 returns-2 c = (sym (max-index _ (c .if1 .left)), omega arith)
 

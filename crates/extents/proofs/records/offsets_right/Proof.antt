@@ -1,3 +1,4 @@
+-- `records::offsets_right` meets its contract. Assumes nothing.
 use native.Mathlib.Omega.{arith}
 use Prim.Native.Nat.{ℕ, _+_, _-_, _*_, _<_, _≤_}
 use native.Mathlib.Numerals.{add-one}
@@ -9,9 +10,6 @@ use Rattle.extents.proofs.Telling.{tells-yes, tells-no}
 use borrow.Author.Needs.{needs}
 use Rattle.extents.proofs.records.offsets_right.Statement.{statement}
 use Rattle.extents.proofs.records.offsets_right.Tie as tie
-use Rattle.extents.proofs.records.offsets_right.Reads as reads
-use Rattle.extents.proofs.records.offsets_right.Lts as lts
-use Rattle.image.proofs.bytes.be16.Reads as be16-reads
 
 abbrev Inv-loop : tie.InvT-loop
 Inv-loop image node c size base want₀ i₀ want i = (i ≤ c + 1) × (want ≡ 14 + i * size) × (want ≤ 14 + 20 * i) × ((j : ℕ) → j < i → be16At image (node * 512 + (510 - 2 * j)) ≡ 14 + j * size)
@@ -19,52 +17,40 @@ Inv-loop image node c size base want₀ i₀ want i = (i ≤ c + 1) × (want ≡
 abbrev μ-loop : tie.MeasureT-loop
 μ-loop image node c size base want₀ i₀ want i = c + 1 - i
 
--- src/records.rt:61:16
 mul-base : tie.Need-mul-base Inv-loop μ-loop
 mul-base c = search needs
 
--- src/records.rt:64:5
 loop-holds : tie.Need-loop-holds Inv-loop μ-loop
 loop-holds c = (search needs, omega arith, search needs, λ j h. absurd (omega arith))
 
--- src/records.rt:65:43
 cast-be16 : tie.Need-cast-be16 Inv-loop μ-loop
 cast-be16 c = search needs
 
--- src/records.rt:65:38
 mul-be16 : tie.Need-mul-be16 Inv-loop μ-loop
 mul-be16 c = search needs
 
--- src/records.rt:65:32
 sub-be16 : tie.Need-sub-be16 Inv-loop μ-loop
 sub-be16 c = search needs
 
--- src/records.rt:65:24
 add-be16 : tie.Need-add-be16 Inv-loop μ-loop
 add-be16 c = search needs
 
--- src/records.rt:65:12
 be16-requires : tie.Need-be16-requires Inv-loop μ-loop
 be16-requires c κs = search needs
 
--- src/records.rt:66:13
 returns : tie.Need-returns Inv-loop μ-loop
 returns c = let l = c .before .before .before .loop in
     tells-no (λ f. c .if1 .taken (c .before .be16 .ensures .0 ∙ f (l .i) (omega arith) ∙ sym (l .inv .1)))
 
--- src/records.rt:68:9
 add-want : tie.Need-add-want Inv-loop μ-loop
 add-want c = search needs
 
--- src/records.rt:69:9
 add-i : tie.Need-add-i Inv-loop μ-loop
 add-i c = search needs
 
--- src/records.rt:64:5
 loop-less : tie.Need-loop-less Inv-loop μ-loop
 loop-less c = search needs
 
--- src/records.rt:64:5
 loop-again : tie.Need-loop-again Inv-loop μ-loop
 loop-again c = let l = c .before .before .before .loop in
     let e = suc-mul (l .i) (c .before .before .before .before .before .args .size) in (
@@ -74,7 +60,6 @@ loop-again c = let l = c .before .before .before .loop in
       below-more _ _ (l .inv .3) (sym (c .before .be16 .ensures .0) ∙ c .if1 .left ∙ l .inv .1),
     )
 
--- src/records.rt:57:1
 returns-2 : tie.Need-returns-2 Inv-loop μ-loop
 returns-2 c = tells-yes (λ j h. c .before .loop .inv .3 j (omega arith))
 

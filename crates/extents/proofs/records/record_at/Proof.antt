@@ -1,3 +1,4 @@
+-- `records::record_at` meets its contract. Assumes nothing.
 use native.Mathlib.Omega.{arith}
 use mathlib.Core.Path.{sym, _∙_}
 use Rattle.extents.specs.Format.{recordAt, kindOf}
@@ -5,48 +6,35 @@ use Rattle.extents.proofs.Sizes.{size-leaf, size-index}
 use borrow.Author.Needs.{needs}
 use Rattle.extents.proofs.records.record_at.Statement.{statement}
 use Rattle.extents.proofs.records.record_at.Tie as tie
-use Rattle.extents.proofs.records.record_at.Reads as reads
-use Rattle.extents.proofs.records.record_at.Lts as lts
-use Rattle.hfs.proofs.node.kind_of.Reads as kind-of-reads
 
--- src/records.rt:34:16
 mul-base : tie.Need-mul-base
 mul-base c = search needs
 
--- src/records.rt:35:8
 kind-of-requires : tie.Need-kind-of-requires
 kind-of-requires c κs = search needs
 
--- src/records.rt:36:22
 mul-result : tie.Need-mul-result
 mul-result c = search needs
 
--- src/records.rt:36:17
 add-result : tie.Need-add-result
 add-result c = search needs
 
--- src/records.rt:36:9
 add-result-2 : tie.Need-add-result-2
 add-result-2 c = search needs
 
--- src/records.rt:38:22
 mul-result-2 : tie.Need-mul-result-2
 mul-result-2 c = search needs
 
--- src/records.rt:38:17
 add-result-3 : tie.Need-add-result-3
 add-result-3 c = search needs
 
--- src/records.rt:38:9
 add-result-4 : tie.Need-add-result-4
 add-result-4 c = search needs
 
--- src/records.rt:30:1
 returns : tie.Need-returns
 unfolding recordAt kindOf
 returns c = (rw (size-leaf _ (sym (c .before .kind-of .ensures .0) ∙ c .if1 .taken)) (omega arith), omega arith)
 
--- src/records.rt:30:1
 returns-2 : tie.Need-returns-2
 unfolding recordAt kindOf
 returns-2 c = (rw (size-index _ (λ e. c .if1 .left (c .before .kind-of .ensures .0 ∙ e))) (omega arith), omega arith)

@@ -1,3 +1,4 @@
+-- `records::records_right` meets its contract. Assumes nothing.
 use native.Mathlib.Omega.{arith}
 use Rattle.btree.proofs.Decisions.{says-no}
 use borrow.Author.Tests.{not-true, not-false}
@@ -7,67 +8,45 @@ use Rattle.extents.proofs.Telling.{told-no, tells-says}
 use borrow.Author.Needs.{needs}
 use Rattle.extents.proofs.records.records_right.Statement.{statement}
 use Rattle.extents.proofs.records.records_right.Tie as tie
-use Rattle.extents.proofs.records.records_right.Reads as reads
-use Rattle.extents.proofs.records.records_right.Lts as lts
-use Rattle.extents.proofs.records.keys_lawful.Reads as keys-lawful-reads
-use Rattle.extents.proofs.records.max_records.Reads as max-records-reads
-use Rattle.extents.proofs.records.offsets_right.Reads as offsets-right-reads
-use Rattle.extents.proofs.records.record_size.Reads as record-size-reads
-use Rattle.hfs.proofs.node.count_of.Reads as count-of-reads
-use Rattle.hfs.proofs.node.kind_of.Reads as kind-of-reads
-use Rattle.hfs.proofs.node.reserved_of.Reads as reserved-of-reads
 
--- src/records.rt:97:8
 kind-of-requires : tie.Need-kind-of-requires
 kind-of-requires c κs = search needs
 
--- src/records.rt:98:9
 returns : tie.Need-returns
 unfolding kindOf
 returns c = sym (says-no (decRecords _ _ _) (λ r. c .if1 .taken (c .before .kind-of .ensures .0 ∙ r .isKind)))
 
--- src/records.rt:100:8
 reserved-of-requires : tie.Need-reserved-of-requires
 reserved-of-requires c κs = search needs
 
--- src/records.rt:101:9
 returns-2 : tie.Need-returns-2
 returns-2 c = sym (says-no (decRecords _ _ _) (λ r. c .if2 .taken (c .before .reserved-of .ensures .0 ∙ r .reserved)))
 
--- src/records.rt:103:9
 count-of-requires : tie.Need-count-of-requires
 count-of-requires c κs = search needs
 
--- src/records.rt:105:9
 returns-3 : tie.Need-returns-3
 returns-3 c = sym (says-no (decRecords _ _ _) (λ r. let k = r .some in omega arith))
 
--- src/records.rt:107:12
 max-records-requires : tie.Need-max-records-requires
 max-records-requires c κs = search needs
 
--- src/records.rt:108:9
 returns-4 : tie.Need-returns-4
 returns-4 c = sym (says-no (decRecords _ _ _) (λ r. let k = r .few in omega arith))
 
--- src/records.rt:110:39
 record-size-requires : tie.Need-record-size-requires
 record-size-requires c κs = search needs
 
--- src/records.rt:110:9
 offsets-right-requires : tie.Need-offsets-right-requires
 offsets-right-requires c κs = search needs
 
--- src/records.rt:111:9
 returns-5 : tie.Need-returns-5
 returns-5 c = sym (says-no (decRecords _ _ _) (λ r. told-no _ (c .before .offsets-right .ensures) (not-true _ (c .if5 .taken))
     (rw (c .before .before .record-size .ensures .0, c .before .before .before .before .before .before .count-of .ensures .0) (r .offsets))))
 
--- src/records.rt:113:5
 keys-lawful-requires : tie.Need-keys-lawful-requires
 keys-lawful-requires c κs = search needs
 
--- src/records.rt:94:1
 returns-6 : tie.Need-returns-6
 unfolding kindOf
 returns-6 c = let o = c .before .before in

@@ -1,22 +1,17 @@
+-- `walk::is_fresh` meets its contract. Assumes nothing.
 use borrow.Author.Tests.{le-ltb, lt-ltb}
 use Rattle.extents.specs.Inner.{freshIn}
 use borrow.Author.Needs.{needs}
 use Rattle.extents.proofs.walk.is_fresh.Statement.{statement}
 use Rattle.extents.proofs.walk.is_fresh.Tie as tie
-use Rattle.extents.proofs.walk.is_fresh.Reads as reads
-use Rattle.extents.proofs.walk.is_fresh.Lts as lts
-use Rattle.image.proofs.bytes.bit_at.Reads as bit-at-reads
 
--- src/walk.rt:61:9
 returns : tie.Need-returns
 unfolding freshIn
 returns c = rw (le-ltb _ _ (c .if1 .taken))
 
--- src/walk.rt:63:5
 bit-at-requires : tie.Need-bit-at-requires
 bit-at-requires c κs = search needs
 
--- src/walk.rt:57:1
 returns-2 : tie.Need-returns-2
 unfolding freshIn
 returns-2 c = rw (lt-ltb _ _ (c .before .before .before .before .if1 .left), c .bit-at .ensures .0)

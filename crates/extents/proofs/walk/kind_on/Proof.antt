@@ -1,29 +1,22 @@
+-- `walk::kind_on` meets its contract. Assumes nothing.
 use Rattle.btree.proofs.Decisions.{cond-yes, cond-no}
 use native.Mathlib.Decide.{ℕ-discrete}
 use mathlib.Core.Path.{sym, _∙_}
-use Rattle.btree.specs.Header.{depthOf}
 use Rattle.extents.specs.Format.{kindOn, leafKind, indexKind}
 use borrow.Author.Needs.{needs}
 use Rattle.extents.proofs.walk.kind_on.Statement.{statement}
 use Rattle.extents.proofs.walk.kind_on.Tie as tie
-use Rattle.extents.proofs.walk.kind_on.Reads as reads
-use Rattle.extents.proofs.walk.kind_on.Lts as lts
-use Rattle.image.proofs.bytes.be16.Reads as be16-reads
 
--- src/walk.rt:42:8
 add-if1 : tie.Need-add-if1
 add-if1 c = search needs
 
--- src/walk.rt:42:21
 be16-requires : tie.Need-be16-requires
 be16-requires c κs = search needs
 
--- src/walk.rt:38:1
 returns : tie.Need-returns
 unfolding kindOn
 returns c = sym (cond-yes (ℕ-discrete _ _) leafKind indexKind (c .if1 .taken ∙ c .before .be16 .ensures .0))
 
--- src/walk.rt:38:1
 returns-2 : tie.Need-returns-2
 unfolding kindOn
 returns-2 c = sym (cond-no (ℕ-discrete _ _) leafKind indexKind (λ e. c .if1 .left (e ∙ sym (c .before .be16 .ensures .0))))

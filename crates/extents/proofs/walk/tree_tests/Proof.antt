@@ -1,13 +1,14 @@
+-- `walk::tree_tests` meets its contract. Assumes nothing.
 use Rattle.extents.specs.declared.walk.Walk.{Walk}
 use lib.ListN.{length, replicate}
 use native.Mathlib.Omega.{arith}
 use Prim.Native.Nat.{_-_}
-use mathlib.Core.List.{List, []}
+use mathlib.Core.List.{[]}
 use mathlib.Core.Option.{none}
 use mathlib.Core.Path.{_≡_, refl, sym, _∙_}
 use Rattle.btree.specs.Walk.{entries}
 use Rattle.btree.specs.Header.{viewOf}
-use Rattle.extents.specs.Inner.{steps, Agrees, Begins}
+use Rattle.extents.specs.Inner.{steps, Agrees}
 use Rattle.extents.specs.Format.{view}
 use Rattle.extents.proofs.Bounds.{bound-none}
 use Rattle.extents.proofs.Finish.{begun, ended, faulted, no-levels}
@@ -15,13 +16,6 @@ use Rattle.extents.proofs.Agree.{tree-none, found-fault, found-none, fo
 use borrow.Author.Needs.{needs}
 use Rattle.extents.proofs.walk.tree_tests.Statement.{statement}
 use Rattle.extents.proofs.walk.tree_tests.Tie as tie
-use Rattle.extents.proofs.walk.tree_tests.Reads as reads
-use Rattle.extents.proofs.walk.tree_tests.Lts as lts
-use Rattle.extents.proofs.walk.closing_tests.Reads as closing-tests-reads
-use Rattle.extents.proofs.walk.stopped_at.Reads as stopped-at-reads
-use Rattle.extents.proofs.walk.visit.Reads as visit-reads
-use Rattle.image.proofs.bytes.be16.Reads as be16-reads
-use Rattle.image.proofs.bytes.be32.Reads as be32-reads
 
 long : (c : tie.Start) → length (c .args .visited .bits) ≡ 750
 long c = search needs
@@ -43,19 +37,15 @@ deep : (c : tie.Else1) → view (c .before .before .before .args .image .now) .d
 unfolding viewOf
 deep c z = c .if1 .left (c .before .be16 .ensures .0 ∙ z)
 
--- src/walk.rt:315:9
 be16-requires : tie.Need-be16-requires
 be16-requires c κs = search needs
 
--- src/walk.rt:317:13
 closing-tests-requires : tie.Need-closing-tests-requires
 closing-tests-requires c κs = search needs
 
--- src/walk.rt:318:9
 stopped-at-requires : tie.Need-stopped-at-requires
 stopped-at-requires c κs = search needs
 
--- src/walk.rt:318:9
 returns : tie.Need-returns
 unfolding viewOf
 returns c = let s = c .before .before .before .before .before in
@@ -64,21 +54,17 @@ returns c = let s = c .before .before .before .before .before in
     let a = began s in
     rw (c .stopped-at .ensures) (ended (s .args .image .now) _ _ (no-levels v _ e a) (c .before .closing-tests .ensures ∙ tree-none v (s .pre .few) (s .pre .shallow) _ a e))
 
--- src/walk.rt:320:9
 be32-requires : tie.Need-be32-requires
 be32-requires c κs = search needs
 
--- src/walk.rt:321:41
 sub-visit : tie.Need-sub-visit
 sub-visit c = search needs
 
--- src/walk.rt:321:9
 visit-requires : tie.Need-visit-requires
 unfolding viewOf
 visit-requires c κs = let s = c .before .before .before in
     record { few = s .before .pre .few; shallow = s .before .pre .shallow; levels = omega arith; clear = refl; small = record { records = omega arith; nodes = omega (arith, s .before .pre .small) } }
 
--- src/walk.rt:323:9
 returns-2 : tie.Need-returns-2
 returns-2 c = let x = c .before .before in
     let s = x .before .before .before .before .before in
@@ -86,15 +72,12 @@ returns-2 c = let x = c .before .before in
     faulted (s .args .image .now) _ (c .if2 .taken)
     (found-fault v (s .pre .few) (s .pre .shallow) (start s) _ (began s) (deep (x .before .before)) (walked x) (c .if2 .taken))
 
--- src/walk.rt:325:9
 closing-tests-requires-2 : tie.Need-closing-tests-requires-2
 closing-tests-requires-2 c κs = search needs
 
--- src/walk.rt:326:5
 stopped-at-requires-2 : tie.Need-stopped-at-requires-2
 stopped-at-requires-2 c κs = search needs
 
--- src/walk.rt:302:1
 returns-3 : tie.Need-returns-3
 returns-3 c = let x = c .before .before .before .before in
     let s = x .before .before .before .before .before in
