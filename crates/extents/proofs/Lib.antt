@@ -1,3 +1,4 @@
+pub mod Finding
 pub mod Framing
 pub mod Closing
 pub mod Finish

@@ -14,6 +14,11 @@ use Rattle.btree.specs.Decide.{ifZero}
 use Rattle.btree.specs.Tree.{View, mapChain, reached}
 use Rattle.btree.specs.Walk.{Entry, nodesOf, lastOn, firstOr, firstOn, recordsOn, above, fails, test, closing, walk}
 use Rattle.hfs.specs.Frame.{Marks}
+use Rattle.btree.specs.declared.Lookup.{Lookup}
+use Rattle.btree.specs.Search.{pathOf, answerOf, pathOut}
+use Rattle.extents.specs.declared.search.Best.{Best}
+use Rattle.extents.specs.declared.search.Place.{Place}
+use Rattle.extents.specs.declared.search.Place.the-variants.{At, Nowhere}
 use Rattle.extents.specs.declared.walk.Walk.{Walk}
 use Rattle.extents.specs.declared.walk.Pointer.{Pointer}
 use Rattle.extents.specs.Format.{view}
@@ -142,3 +147,16 @@ pub record Ends (img : List ℕ) (r : Walk) : Type 0 where
   pub verdict : fails (r .number) (r .place) ≡ walk (view img)
   pub marks : r .number ≡ 0 → Marks (r .visited .bits) (reached (view img))
   pub count : r .number ≡ 0 → r .nodes ≡ length (reached (view img))
+
+abbrev pub placeOf : Place → Option ℕ
+placeOf (At i) = some i
+placeOf Nowhere = none
+
+-- the better of the best record so far and record i, whose key is this one, of those not above k
+unfoldable pub betterOf : Best → ℕ → ℕ → ℕ → Best
+betterOf best i key k = pick (ltb k key) best (pick (ltb key (best .high)) best (record { place = At i; high = key }))
+
+-- what the descent gives
+pub record Descends (img : List ℕ) (k : ℕ) (r : Lookup) : Type 0 where
+  pub answer : r .answer ≡ answerOf (view img) k
+  pub path : r .path ≡ pathOut (pathOf (view img) k)

@@ -11,6 +11,7 @@ use walk::tree_tests;
 
 pub mod key;
 pub mod records;
+pub mod search;
 pub mod walk;
 
 // The first fault in the order of tests, number and place; 0 and 0 for a sound image.

@@ -33,7 +33,6 @@ fn max_records(kind: u32) -> u32
 
 // Where record i of a node starts.
 pub fn record_at(image: &[u8], node: u32, i: u32) -> usize
-    requires { ⌜ i < 65536 ⌝ }
     ensures { λ r. ⌜ (r ≡ recordAt (now (image .entry)) node i) × (r < 10000000000000) ⌝ }
 {
     let base = (node as usize) * 512;
@@ -45,14 +44,12 @@ pub fn record_at(image: &[u8], node: u32, i: u32) -> usize
 }
 
 pub fn key_of(image: &[u8], node: u32, i: u32) -> u64
-    requires { ⌜ i < 65536 ⌝ }
     ensures { λ r. ⌜ (r ≡ view (now (image .entry)) .key node i) × (r < 72057594037927936) ⌝ }
 {
     key_at(image, record_at(image, node, i))
 }
 
 pub fn child_of(image: &[u8], node: u32, i: u32) -> u32
-    requires { ⌜ i < 65536 ⌝ }
     ensures { λ r. ⌜ r ≡ view (now (image .entry)) .child node i ⌝ }
 {
     be32(image, record_at(image, node, i) + 8)

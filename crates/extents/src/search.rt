@@ -1,0 +1,73 @@
+// The search in one node, and the descent from the root to a leaf.
+ghost use mathlib.Core.Path.{_≡_};
+ghost use Prim.Native.Nat.{_<_, _≤_};
+ghost use Rattle.btree.specs.Search.{highestOf, recordWith};
+ghost use Rattle.extents.specs.Format.{view};
+ghost use Rattle.extents.specs.Inner.{placeOf, betterOf, Descends};
+use super::records::child_of;
+use super::records::key_of;
+use btree::Answer;
+use btree::Lookup;
+use btree::Path;
+use hfs::node::count_of;
+use image::bytes::be16;
+use image::bytes::be32;
+
+// A record of a node.
+pub enum Place {
+    At(u32),
+    Nowhere,
+}
+
+// The first record of a node with this key.
+pub fn record_with(image: &[u8], node: u32, k: u64) -> Place
+    ensures { λ r. ⌜ placeOf r ≡ recordWith (view (now (image .entry))) node k 0 (view (now (image .entry)) .count node) ⌝ }
+{
+    let c = count_of(image, node);
+    let mut i: u32 = 0;
+    while i < c {
+        if key_of(image, node, i) == k {
+            return Place::At(i);
+        }
+        i += 1;
+    }
+    Place::Nowhere
+}
+
+// The best record so far and its key, 0 where there is none.
+pub struct Best {
+    pub place: Place,
+    pub high: u64,
+}
+
+// After record i with this key: the later of equal ones.
+fn better(best: Best, i: u32, key: u64, k: u64) -> Best
+    ensures { λ r. ⌜ r ≡ betterOf best i key k ⌝ }
+{
+    if key > k {
+        return best;
+    }
+    if key < best.high {
+        return best;
+    }
+    let place = Place::At(i);
+    Best { place, high: key }
+}
+
+// The record with the highest key not above this one.
+pub fn highest_not_above(image: &[u8], node: u32, k: u64) -> Place
+    ensures { λ r. ⌜ placeOf r ≡ highestOf (view (now (image .entry))) node k (view (now (image .entry)) .count node) ⌝ }
+{
+    let c = count_of(image, node);
+    let nowhere = Place::Nowhere;
+    let mut best = Best {
+        place: nowhere,
+        high: 0,
+    };
+    let mut i: u32 = 0;
+    while i < c {
+        best = better(best, i, key_of(image, node, i), k);
+        i += 1;
+    }
+    best.place
+}
