@@ -1,3 +1,4 @@
+pub mod Descent
 pub mod Finding
 pub mod Framing
 pub mod Closing

@@ -14,6 +14,7 @@ use Rattle.btree.specs.Decide.{ifZero}
 use Rattle.btree.specs.Tree.{View, mapChain, reached}
 use Rattle.btree.specs.Walk.{Entry, nodesOf, lastOn, firstOr, firstOn, recordsOn, above, fails, test, closing, walk}
 use Rattle.hfs.specs.Frame.{Marks}
+use Rattle.btree.specs.declared.Answer.the-variants.{Absent}
 use Rattle.btree.specs.declared.Lookup.{Lookup}
 use Rattle.btree.specs.Search.{pathOf, answerOf, pathOut}
 use Rattle.extents.specs.declared.search.Best.{Best}
@@ -155,6 +156,10 @@ placeOf Nowhere = none
 -- the better of the best record so far and record i, whose key is this one, of those not above k
 unfoldable pub betterOf : Best → ℕ → ℕ → ℕ → Best
 betterOf best i key k = pick (ltb k key) best (pick (ltb key (best .high)) best (record { place = At i; high = key }))
+
+-- a descent that stops at this node, after the nodes stored
+abbrev pub stoppedAt : List ℕ → ℕ → ℕ → Lookup
+stoppedAt nodes len node = record { answer = Absent node; path = record { nodes = nodes; len = len } }
 
 -- what the descent gives
 pub record Descends (img : List ℕ) (k : ℕ) (r : Lookup) : Type 0 where

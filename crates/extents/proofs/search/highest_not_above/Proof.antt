@@ -46,13 +46,13 @@ loop-less c = search needs
 
 -- src/search.rt:68:5
 loop-again : tie.Need-loop-again Inv-loop μ-loop
-loop-again c =     let l = c .before .before .before in
+loop-again c = let l = c .before .before .before in
     (search needs, rw (c .better .ensures, c .before .key-of .ensures .0) (best-more _ _ _ _ _ (l .loop .inv .1)))
 
 -- src/search.rt:58:1
 returns : tie.Need-returns Inv-loop μ-loop
 unfolding viewOf
-returns c =     let l = c .before in
+returns c = let l = c .before in
     let a = l .before .before .before .args in
     let e : l .loop .i ≡ l .before .count-of .result = omega arith in
     l .loop .inv .1 .is ∙ ap (highestOf (view (a .image .now)) (a .node) (a .k)) (e ∙ l .before .count-of .ensures .0)

@@ -35,7 +35,7 @@ key-of-requires c κs = search needs
 -- src/search.rt:30:13
 returns : tie.Need-returns Inv-loop μ-loop
 unfolding viewOf
-returns c =     let l = c .before .before .before in
+returns c = let l = c .before .before .before in
     let v = view (l .before .before .before .args .image .now) in
     rw (← l .before .count-of .ensures .0)
     (sym (with-hit v _ _ _ _ (c .before .before .loop-test .taken) (sym (c .before .key-of .ensures .0) ∙ c .if1 .taken)) ∙ l .loop .inv .1)
@@ -50,14 +50,14 @@ loop-less c = search needs
 
 -- src/search.rt:28:5
 loop-again : tie.Need-loop-again Inv-loop μ-loop
-loop-again c =     let l = c .before .before .before in
+loop-again c = let l = c .before .before .before in
     let v = view (l .before .before .before .args .image .now) in
     (search needs, sym (with-on v _ _ _ _ (c .before .before .loop-test .taken) (λ e. c .if1 .left (c .before .key-of .ensures .0 ∙ e))) ∙ l .loop .inv .1)
 
 -- src/search.rt:23:1
 returns-2 : tie.Need-returns-2 Inv-loop μ-loop
 unfolding viewOf
-returns-2 c =     let l = c .before in
+returns-2 c = let l = c .before in
     let v = view (l .before .before .before .args .image .now) in
     rw (← l .before .count-of .ensures .0) (sym (with-end v _ _ _ _ (c .loop-test .left)) ∙ l .loop .inv .1)
 
