@@ -1,3 +1,5 @@
+pub mod Parts
+pub mod Demands
 pub mod Descent
 pub mod Finding
 pub mod Framing

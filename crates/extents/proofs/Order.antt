@@ -1,6 +1,7 @@
 -- Numeric order of packed keys is key order.
 -- Assumes nothing.
 use mathlib.Core.Path.{_≡_, refl, sym, _∙_}
+use mathlib.Core.Logic.{_↔_}
 use Prim.Native.Nat.{ℕ, _<_}
 use native.Mathlib.Omega.{arith}
 use native.Mathlib.Decide.{decLt}
@@ -40,3 +41,17 @@ packed-order a b ra rb =
     (λ f. by-field (a .fork) (b .fork) _ _ _ _ (λ h. omega arith) (λ h. omega arith)
     (λ g. by-field (a .start) (b .start) _ _ _ _ (λ h. omega arith) (λ h. omega arith)
     (λ e. sym (ranked-same _ _ _ (omega arith)))))
+
+-- a comparison answers 0 of equal keys alone
+ranked-zero : (a b : ℕ) → (ranked a b (pos 0) ≡ pos 0) ↔ (a ≡ b)
+ranked-zero a b = (λ e. go e (decLt a b) (decLt b a), ranked-same a b (pos 0))
+  where
+    go : ranked a b (pos 0) ≡ pos 0 → Dec (a < b) → Dec (b < a) → a ≡ b
+    go e (yes p) q = let y = ranked-below a b (pos 0) p in absurd (let z : _≡_ {A = ℕ} 0 1 = cc in omega arith)
+    go e (no p) (yes q) = let y = ranked-above a b (pos 0) q in absurd (let z : _≡_ {A = ℕ} 0 1 = cc in omega arith)
+    go e (no p) (no q) = omega arith
+
+pub same-key : (a b : Key) → InRange a → InRange b → (compared a b ≡ pos 0) ↔ (packed a ≡ packed b)
+same-key a b ra rb =
+    let e = packed-order a b ra rb in
+    (λ z. ranked-zero (packed a) (packed b) .0 (sym e ∙ z), λ q. e ∙ ranked-zero (packed a) (packed b) .1 q)

@@ -2,3 +2,4 @@ pub mod Key
 pub mod Format
 pub mod Reader
 pub mod Inner
+pub mod Demands

@@ -41,8 +41,8 @@ searchPath img k = search.pathOf (view img) (packed k)
 abbrev pub asked : ℕ → ℕ → ℕ → Key
 asked file fork start = record { file = file; fork = fork; start = start }
 
-abbrev pub lookup : List ℕ → Key → Lookup
-lookup img k = search.lookupOf (view img) (verdict img) (decLawful (k .fork)) (packed k)
+abbrev pub lookedUp : List ℕ → Key → Lookup
+lookedUp img k = search.lookupOf (view img) (verdict img) (decLawful (k .fork)) (packed k)
 
 -- where the data of record i of the node n starts: "key and 12 bytes"
 abbrev pub dataAt : List ℕ → ℕ → ℕ → ℕ

@@ -1,12 +1,23 @@
 // The reader of the extents overflow file of an HFS volume. Any bytes are an image, and nobody has to have checked it first.
 ghost use mathlib.Core.Path.{_≡_};
 ghost use mathlib.Core.Logic.{_↔_};
-ghost use Rattle.extents.specs.Reader.{Sound, verdict};
+ghost use Rattle.btree.specs.Search.{refused};
+ghost use Rattle.extents.specs.Reader.{Sound, verdict, asked, lookedUp, foundPart};
+ghost use Rattle.extents.specs.Demands.{LookupSays, PartOf};
+use btree::Answer;
+use btree::Lookup;
+use btree::Path;
 use btree::Verdict;
 use hfs::header::header_right;
 use hfs::header::length_right;
 use hfs::map::map_chain;
 use hfs::map::map_tests;
+use image::part::no_part;
+use image::part::part_at;
+use key::is_lawful;
+use key::pack;
+use records::record_at;
+use search::descend;
 use walk::tree_tests;
 
 pub mod key;
@@ -48,4 +59,43 @@ pub fn check(image: &[u8]) -> Verdict
     }
     let reached = tree.visited;
     map_tests(image, reached, tree.nodes)
+}
+
+fn refusal(number: u32, place: u32) -> Lookup
+    ensures { λ r. ⌜ r ≡ refused number place ⌝ }
+{
+    let answer = Answer::Refused(number, place);
+    let path = Path {
+        nodes: [0; 8],
+        len: 0,
+    };
+    Lookup { answer, path }
+}
+
+// What stands under a key: first the fork byte is judged, then the whole image, and only then the tree is searched.
+pub fn lookup(image: &[u8], file: u32, fork: u8, start: u16) -> Lookup
+    ensures equal { λ r. ⌜ r ≡ lookedUp (now (image .entry)) (asked file fork start) ⌝ }
+    ensures says { λ r. ⌜ LookupSays (now (image .entry)) (asked file fork start) r ⌝ }
+{
+    if !is_lawful(fork as u32) {
+        return refusal(11, 0);
+    }
+    let t = check(image);
+    if t.number != 0 {
+        return refusal(t.number, t.place);
+    }
+    descend(image, pack(file, fork, start))
+}
+
+// The 12 data bytes of the record that a lookup finds, or else the empty part at the image's start.
+pub fn lookup_part<'a>(image: &'a [u8], file: u32, fork: u8, start: u16) -> &'a [u8]
+    ensures { λ r. ⌜ PartOf (image .entry) r (foundPart (now (image .entry)) (lookedUp (now (image .entry)) (asked file fork start) .answer)) ⌝ }
+{
+    let found = lookup(image, file, fork, start);
+    let answer = found.answer;
+    match answer {
+        Answer::Found(node, i) => part_at(image, record_at(image, node, i) + 8, 12),
+        Answer::Absent(_) => no_part(image),
+        Answer::Refused(_, _) => no_part(image),
+    }
 }

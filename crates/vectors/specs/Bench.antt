@@ -9,7 +9,7 @@ use Rattle.btree.specs.Walk.{fails}
 use Rattle.btree.specs.declared.Lookup.{Lookup}
 use Rattle.btree.specs.Numbers.{lookupReply}
 use Rattle.extents.specs.Key.{Key, Lawful, packed, compared}
-use Rattle.extents.specs.Reader.{asked, verdict, lookup}
+use Rattle.extents.specs.Reader.{asked, verdict, lookedUp}
 use Rattle.vectors.specs.Build.{E1, L1}
 
 -- the numbers of a reply and of the search path beside it
@@ -34,8 +34,8 @@ pub record Case : Type 0 where
 
 abbrev pub Says : List ℕ → Asks → Type 0
 Says img (check number place) = verdict img ≡ fails number place
-Says img (look k numbers) = numbersOf (lookup img k) ≡ numbers
-Says img (lookAny numbers) = (file fork start : ℕ) → Lawful fork → numbersOf (lookup img (asked file fork start)) ≡ numbers
+Says img (look k numbers) = numbersOf (lookedUp img k) ≡ numbers
+Says img (lookAny numbers) = (file fork start : ℕ) → Lawful fork → numbersOf (lookedUp img (asked file fork start)) ≡ numbers
 Says img (packs k n) = packed k ≡ n
 Says img (compares a b z) = compared a b ≡ z
 

@@ -39,7 +39,7 @@ absent-requires c κs = search needs
 -- src/search.rt:102:9
 returns : tie.Need-returns Inv-loop μ-loop
 unfolding viewOf
-returns c =     let a = c .before .before .before .before .args in
+returns c = let a = c .before .before .before .before .args in
     let v = view (a .image .now) in
     let e = sym (c .before .before .be16 .ensures .0) ∙ c .before .if1 .taken in
     rw (c .absent .ensures)
@@ -56,7 +56,7 @@ array-write-nodes c = search needs
 -- src/search.rt:107:5
 loop-holds : tie.Need-loop-holds Inv-loop μ-loop
 unfolding viewOf
-loop-holds c =     let s = c .before .before .before .before in
+loop-holds c = let s = c .before .before .before .before in
     rw (c .be32 .ensures)
     (stored-root (view (s .args .image .now)) (s .args .k) _ (c .before .if1 .left) (let e = c .before .before .be16 .ensures .0 in let h = s .pre in omega arith))
 
@@ -78,7 +78,7 @@ absent-requires-2 c κs = search needs
 
 -- src/search.rt:110:13
 returns-2 : tie.Need-returns-2 Inv-loop μ-loop
-returns-2 c =     let r = c .before .before .before in
+returns-2 c = let r = c .before .before .before in
     let l = r .before .before in
     let s = l .before .before .before .before .before in
     let v = view (s .args .image .now) in
@@ -112,7 +112,7 @@ loop-less c = search needs
 
 -- src/search.rt:107:5
 loop-again : tie.Need-loop-again Inv-loop μ-loop
-loop-again c =     let r = c .before .before .before .before in
+loop-again c = let r = c .before .before .before .before in
     let l = r .before .before in
     let s = l .before .before .before .before .before in
     rw (c .child-of .ensures)
@@ -124,7 +124,7 @@ in-leaf-requires c κs = search needs
 
 -- src/search.rt:95:1
 returns-3 : tie.Need-returns-3 Inv-loop μ-loop
-returns-3 c =     let l = c .before .before in
+returns-3 c = let l = c .before .before in
     let s = l .before .before .before .before .before in
     let v = view (s .args .image .now) in
     let (p, n, e) = ends-path v (s .args .k) _ _ _ _ (l .loop .inv) (c .before .loop-test .left) in

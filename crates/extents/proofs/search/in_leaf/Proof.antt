@@ -24,13 +24,13 @@ enum-told c = search needs
 
 -- src/search.rt:84:1
 returns : tie.Need-returns
-returns c =     let r = c .before .before .before in
+returns c = let r = c .before .before .before in
     let a = r .before .before .args in
     ap (inLeaf (view (a .image .now)) (a .node)) (sym (ap placeOf (c .before .place .given .1)) ∙ r .record-with .ensures)
 
 -- src/search.rt:84:1
 returns-2 : tie.Need-returns-2
-returns-2 c =     let r = c .before .before in
+returns-2 c = let r = c .before .before in
     let a = r .before .before .args in
     ap (inLeaf (view (a .image .now)) (a .node)) (sym (ap placeOf (c .enum-told .given .1)) ∙ r .record-with .ensures)
 
