@@ -18,7 +18,8 @@ use Rattle.btree.specs.Header.{depthOf, viewOf}
 use Rattle.btree.specs.Search.{pathOf, answerOf, pathOut, refused, afterCheck, lookupOf}
 use Rattle.btree.proofs.Paths.{path-short, leaf-stands, leafList-once}
 use Rattle.btree.proofs.Answers.{found-record, record-found, absent-none, none-absent, absent-place}
-use Rattle.extents.specs.Key.{Key, Lawful, decLawful, packed, compared, keyAt}
+use Rattle.extents.specs.declared.key.Key.{Key}
+use Rattle.extents.specs.Key.{Lawful, decLawful, packed, compared, keyAt}
 use Rattle.extents.specs.Format.{recordAt, keyOf, view}
 use Rattle.extents.specs.Reader.{Sound, verdict, leafList, searchPath, lookedUp, dataAt}
 use Rattle.extents.specs.Demands.{HasKey, SoundAnswer, LookupSays}

@@ -8,7 +8,8 @@ use native.Mathlib.Decide.{decLt}
 use lib.IntN.{ℤ, pos, negsuc}
 use Rattle.btree.specs.Decide.{cond}
 use Rattle.btree.proofs.Decisions.{cond-yes, cond-no}
-use Rattle.extents.specs.Key.{Key, packed, ranked, compared}
+use Rattle.extents.specs.declared.key.Key.{Key}
+use Rattle.extents.specs.Key.{packed, ranked, compared}
 
 pub ranked-below : (a b : ℕ) (x : ℤ) → a < b → ranked a b x ≡ negsuc 0
 ranked-below a b x h = cond-yes (decLt a b) _ _ h
@@ -55,3 +56,22 @@ pub same-key : (a b : Key) → InRange a → InRange b → (compared a b ≡ pos
 same-key a b ra rb =
     let e = packed-order a b ra rb in
     (λ z. ranked-zero (packed a) (packed b) .0 (sym e ∙ z), λ q. e ∙ ranked-zero (packed a) (packed b) .1 q)
+
+-- an answer by the fields is one by the packed numbers
+pub by-packed : (a b : Key) (z : ℤ) → InRange a → InRange b → compared a b ≡ z → (z ≡ compared a b) × (z ≡ ranked (packed a) (packed b) (pos 0))
+by-packed a b z ra rb e = (sym e, sym e ∙ packed-order a b ra rb)
+
+-- the first field in which the keys differ decides
+module _ (a b : Key) where
+  pub by-file : (z : ℤ) → ((x : ℤ) → ranked (a .file) (b .file) x ≡ z) → compared a b ≡ z
+  unfolding compared
+  by-file z h = h _
+
+  module _ (f : a .file ≡ b .file) where
+    pub by-fork : (z : ℤ) → ((x : ℤ) → ranked (a .fork) (b .fork) x ≡ z) → compared a b ≡ z
+    unfolding compared
+    by-fork z h = ranked-same (a .file) (b .file) _ f ∙ h _
+
+    pub by-start : (z : ℤ) → a .fork ≡ b .fork → ranked (a .start) (b .start) (pos 0) ≡ z → compared a b ≡ z
+    unfolding compared
+    by-start z g h = ranked-same (a .file) (b .file) _ f ∙ ranked-same (a .fork) (b .fork) _ g ∙ h

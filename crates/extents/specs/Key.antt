@@ -9,11 +9,7 @@ use lib.IntN.{ℤ, pos, negsuc}
 use lib.ListN.{getD}
 use Rattle.image.specs.Bytes.{be16At, be32At}
 use Rattle.btree.specs.Decide.{cond, decOr}
-
-pub record Key : Type 0 where
-  pub file : ℕ
-  pub fork : ℕ
-  pub start : ℕ
+use Rattle.extents.specs.declared.key.Key.{Key}
 
 -- "The fork bytes 00 and FF are lawful."
 abbrev pub Lawful : ℕ → Type 0

@@ -19,7 +19,8 @@ use Rattle.btree.specs.Search as search
 use Rattle.btree.specs.Image as image
 use Rattle.btree.specs.Walk.{decOrdered}
 use Rattle.btree.specs.Tests as tests
-use Rattle.extents.specs.Key.{Key, packed, decLawful}
+use Rattle.extents.specs.declared.key.Key.{Key}
+use Rattle.extents.specs.Key.{packed, decLawful}
 use Rattle.btree.specs.Header.{countOf, viewOf}
 use Rattle.hfs.specs.Hfs.{hfs}
 use Rattle.extents.specs.Format.{leafKind, recordAt, keyOf, Records, decRecords, format, view}

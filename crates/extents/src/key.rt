@@ -1,12 +1,46 @@
 // The key of an extents record.
 ghost use mathlib.Core.Path.{_≡_};
 ghost use Prim.Native.Nat.{_<_};
+ghost use lib.IntN.{pos};
 ghost use Rattle.btree.specs.Decide.{says};
-ghost use Rattle.extents.specs.Key.{decLawful, packed, keyAt};
+ghost use Rattle.extents.specs.Key.{decLawful, packed, ranked, compared, keyAt};
 ghost use Rattle.extents.specs.Reader.{asked};
 use image::bytes::be16;
 use image::bytes::be32;
 use image::bytes::byte_at;
+
+// What a record is found by.
+pub struct Key {
+    pub file: u32,
+    pub fork: u8,
+    pub start: u16,
+}
+
+// -1, 0 or 1: file number, then fork as an unsigned byte, then start block.
+pub fn compare(a: Key, b: Key) -> i32
+    ensures equal { λ r. ⌜ r ≡ compared a b ⌝ }
+    ensures order { λ r. ⌜ r ≡ ranked (packed a) (packed b) (pos 0) ⌝ }
+{
+    if a.file < b.file {
+        return -1;
+    }
+    if b.file < a.file {
+        return 1;
+    }
+    if a.fork < b.fork {
+        return -1;
+    }
+    if b.fork < a.fork {
+        return 1;
+    }
+    if a.start < b.start {
+        return -1;
+    }
+    if b.start < a.start {
+        return 1;
+    }
+    0
+}
 
 // The fork bytes 00 and FF are lawful.
 pub fn is_lawful(fork: u32) -> bool

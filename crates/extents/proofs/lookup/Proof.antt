@@ -1,3 +1,4 @@
+-- `lookup` meets its contract. Assumes nothing.
 use Rattle.btree.specs.Search.{refused}
 use Rattle.extents.proofs.Demands.{Bytes, lookup-unlawful, lookup-refused, descended, answered}
 use native.Mathlib.Omega.{arith}
@@ -8,18 +9,10 @@ use Rattle.btree.specs.Header.{viewOf}
 use Rattle.btree.specs.declared.Verdict.{Verdict}
 use Rattle.extents.specs.Reader.{asked}
 use Rattle.extents.specs.Key.{Lawful, decLawful}
-use Rattle.extents.proofs.Soundness.{number-iff}
 use Rattle.extents.proofs.Order.{InRange}
 use borrow.Author.Needs.{needs}
 use Rattle.extents.proofs.lookup.Statement.{statement}
 use Rattle.extents.proofs.lookup.Tie as tie
-use Rattle.extents.proofs.lookup.Reads as reads
-use Rattle.extents.proofs.lookup.Lts as lts
-use Rattle.extents.proofs.check.Reads as check-reads
-use Rattle.extents.proofs.key.is_lawful.Reads as is-lawful-reads
-use Rattle.extents.proofs.key.pack.Reads as pack-reads
-use Rattle.extents.proofs.refusal.Reads as refusal-reads
-use Rattle.extents.proofs.search.descend.Reads as descend-reads
 
 bytes : (c : tie.After-shared-slice-known) → Bytes (c .before .args .image .now)
 bytes c i = omega (arith, c .shared-slice-known .given i)
@@ -30,32 +23,26 @@ asked-inRange c = record { fork = omega arith; start = omega arith }
 lawful : (c : tie.Else1) → Lawful (c .before .before .before .args .fork)
 lawful c = said (decLawful _) (sym (c .before .is-lawful .ensures) ∙ not-false _ (c .if1 .left))
 
--- src/lib.rt:80:9
 is-lawful-requires : tie.Need-is-lawful-requires
 is-lawful-requires c κs = search needs
 
--- src/lib.rt:81:9
 refusal-requires : tie.Need-refusal-requires
 refusal-requires c κs = search needs
 
--- src/lib.rt:81:9
 returns : tie.Need-returns
-returns c =     let w = c .before .before in
+returns c = let w = c .before .before in
     let s = w .before .before in
     answered (s .args .image .now) (bytes (w .before)) _ (asked-inRange s) _
     (c .refusal .ensures ∙ sym (lookup-unlawful _ (bytes (w .before)) _ (asked-inRange s) (unsaid (decLawful _) (sym (w .is-lawful .ensures) ∙ not-true _ (c .before .if1 .taken)))))
 
--- src/lib.rt:83:9
 check-requires : tie.Need-check-requires
 check-requires c κs = search needs
 
--- src/lib.rt:85:9
 refusal-requires-2 : tie.Need-refusal-requires-2
 refusal-requires-2 c κs = search needs
 
--- src/lib.rt:85:9
 returns-2 : tie.Need-returns-2
-returns-2 c =     let t = c .before .before .before in
+returns-2 c = let t = c .before .before .before in
     let w = t .before .before in
     let s = w .before .before in
     let b = bytes (w .before) in
@@ -64,18 +51,15 @@ returns-2 c =     let t = c .before .before .before in
     (c .refusal2 .ensures ∙ ap (λ (x : Verdict). refused (x .number) (x .place)) e
     ∙ sym (lookup-refused _ b _ (asked-inRange s) (lawful (t .before)) (λ z. c .before .if2 .taken (ap (λ (x : Verdict). x .number) e ∙ z))))
 
--- src/lib.rt:87:20
 pack-requires : tie.Need-pack-requires
 pack-requires c κs = search needs
 
--- src/lib.rt:87:5
 descend-requires : tie.Need-descend-requires
 unfolding viewOf
 descend-requires c κs = c .before .before .before .check .ensures .1 .0 (c .before .if2 .left) .header .depthInRange
 
--- src/lib.rt:76:1
 returns-3 : tie.Need-returns-3
-returns-3 c =     let n = c .before .before in
+returns-3 c = let n = c .before .before in
     let t = n .before .before in
     let w = t .before .before in
     let s = w .before .before in

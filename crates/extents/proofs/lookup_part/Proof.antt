@@ -1,20 +1,15 @@
+-- `lookup_part` meets its contract. Assumes nothing.
 use native.Mathlib.Omega.{arith}
 use mathlib.Core.Path.{_≡_, sym, ap, _∙_}
 use Rattle.btree.specs.declared.Lookup.{Lookup}
 use Rattle.btree.specs.declared.Answer.{Answer}
 use Rattle.extents.specs.Reader.{asked, lookedUp}
-use Rattle.extents.specs.Key.{Key}
+use Rattle.extents.specs.declared.key.Key.{Key}
 use Rattle.extents.proofs.Order.{InRange}
 use Rattle.extents.proofs.Demands.{Bytes, found-inside}
 use borrow.Author.Needs.{needs}
 use Rattle.extents.proofs.lookup_part.Statement.{statement}
 use Rattle.extents.proofs.lookup_part.Tie as tie
-use Rattle.extents.proofs.lookup_part.Reads as reads
-use Rattle.extents.proofs.lookup_part.Lts as lts
-use Rattle.extents.proofs.lookup.Reads as lookup-reads
-use Rattle.extents.proofs.records.record_at.Reads as record-at-reads
-use Rattle.image.proofs.part.no_part.Reads as no-part-reads
-use Rattle.image.proofs.part.part_at.Reads as part-at-reads
 
 bytes : (c : tie.After-shared-slice-known) → Bytes (c .before .args .image .now)
 bytes c i = omega (arith, c .shared-slice-known .given i)
@@ -29,59 +24,47 @@ key-inRange c = record { fork = omega arith; start = omega arith }
 answers : (c : tie.After-lookup) (a : Answer) → c .lookup .result .answer ≡ a → lookedUp (c .before .before .args .image .now) (key (c .before .before)) .answer ≡ a
 answers c a e = sym (ap (λ (l : Lookup). l .answer) (c .lookup .ensures .0)) ∙ e
 
--- src/lib.rt:94:9
 lookup-requires : tie.Need-lookup-requires
 lookup-requires c κs = search needs
 
--- src/lib.rt:97:23
 enum-known-answer : tie.Need-enum-known-answer
 enum-known-answer c = search needs
 
--- src/lib.rt:97:50
 record-at-requires : tie.Need-record-at-requires
 record-at-requires c κs = search needs
 
--- src/lib.rt:97:50
 add-part-at : tie.Need-add-part-at
 add-part-at c = search needs
 
--- src/lib.rt:97:35
 part-at-requires : tie.Need-part-at-requires
-part-at-requires c κs =     let r = c .before .before in
+part-at-requires c κs = let r = c .before .before in
     let l = r .before .before in
     let s = l .before .before in
     rw (c .record-at .ensures .0) (found-inside (s .args .image .now) (bytes (l .before)) (key s) (key-inRange s) _ _ (answers l _ (r .answer .given .1)))
 
--- src/lib.rt:98:30
 enum-told : tie.Need-enum-told
 enum-told c = search needs
 
--- src/lib.rt:98:30
 no-part-requires : tie.Need-no-part-requires
 no-part-requires c κs = search needs
 
--- src/lib.rt:99:34
 enum-told-2 : tie.Need-enum-told-2
 enum-told-2 c = search needs
 
--- src/lib.rt:99:34
 no-part-requires-2 : tie.Need-no-part-requires-2
 no-part-requires-2 c κs = search needs
 
--- src/lib.rt:91:1
 returns : tie.Need-returns
-returns c =     let r = c .before .before .before in
+returns c = let r = c .before .before .before in
     let l = r .before .before in
     rw (answers l _ (r .answer .given .1)) (rw (← c .before .record-at .ensures .0) (c .part-at .ensures))
 
--- src/lib.rt:91:1
 returns-2 : tie.Need-returns-2
-returns-2 c =     let t = c .before in
+returns-2 c = let t = c .before in
     rw (answers (t .before .before) _ (t .enum-told .given .1)) (c .no-part .ensures)
 
--- src/lib.rt:91:1
 returns-3 : tie.Need-returns-3
-returns-3 c =     let t = c .before in
+returns-3 c = let t = c .before in
     rw (answers (t .before .before) _ (t .enum-told2 .given .1)) (c .no-part2 .ensures)
 
 pub lookup-part-spec : {M : Type 1} → statement M

@@ -1,3 +1,4 @@
+-- `search::descend` meets its contract. Assumes nothing.
 use native.Mathlib.Omega.{arith}
 use Prim.Native.Nat.{ℕ, _-_}
 use mathlib.Core.Path.{_≡_, sym, ap, _∙_}
@@ -9,14 +10,6 @@ use Rattle.extents.proofs.Descent.{Stored, stored-root, stored-child, s
 use borrow.Author.Needs.{needs}
 use Rattle.extents.proofs.search.descend.Statement.{statement}
 use Rattle.extents.proofs.search.descend.Tie as tie
-use Rattle.extents.proofs.search.descend.Reads as reads
-use Rattle.extents.proofs.search.descend.Lts as lts
-use Rattle.extents.proofs.records.child_of.Reads as child-of-reads
-use Rattle.extents.proofs.search.absent.Reads as absent-reads
-use Rattle.extents.proofs.search.highest_not_above.Reads as highest-not-above-reads
-use Rattle.extents.proofs.search.in_leaf.Reads as in-leaf-reads
-use Rattle.image.proofs.bytes.be16.Reads as be16-reads
-use Rattle.image.proofs.bytes.be32.Reads as be32-reads
 
 abbrev Inv-loop : tie.InvT-loop
 Inv-loop image k depth nodes₀ node₀ len₀ nodes node len = Stored (view image) k depth nodes node len
@@ -28,15 +21,12 @@ depth-is : (c : tie.Else1 Inv-loop μ-loop) → c .before .be16 .result ≡ view
 unfolding viewOf
 depth-is c = c .before .be16 .ensures .0
 
--- src/search.rt:99:9
 be16-requires : tie.Need-be16-requires Inv-loop μ-loop
 be16-requires c κs = search needs
 
--- src/search.rt:102:9
 absent-requires : tie.Need-absent-requires Inv-loop μ-loop
 absent-requires c κs = search needs
 
--- src/search.rt:102:9
 returns : tie.Need-returns Inv-loop μ-loop
 unfolding viewOf
 returns c = let a = c .before .before .before .before .args in
@@ -45,38 +35,30 @@ returns c = let a = c .before .before .before .before .args in
     rw (c .absent .ensures)
     (record { answer = ap (λ (d : ℕ). answerAt v d (a .k)) (sym e); path = ap (λ (d : ℕ). pathOut (pathAt v d (a .k))) (sym e) })
 
--- src/search.rt:104:9
 be32-requires : tie.Need-be32-requires Inv-loop μ-loop
 be32-requires c κs = search needs
 
--- src/search.rt:105:5
 array-write-nodes : tie.Need-array-write-nodes Inv-loop μ-loop
 array-write-nodes c = search needs
 
--- src/search.rt:107:5
 loop-holds : tie.Need-loop-holds Inv-loop μ-loop
 unfolding viewOf
 loop-holds c = let s = c .before .before .before .before in
     rw (c .be32 .ensures)
     (stored-root (view (s .args .image .now)) (s .args .k) _ (c .before .if1 .left) (let e = c .before .before .be16 .ensures .0 in let h = s .pre in omega arith))
 
--- src/search.rt:108:13
 highest-not-above-requires : tie.Need-highest-not-above-requires Inv-loop μ-loop
 highest-not-above-requires c κs = search needs
 
--- src/search.rt:109:23
 enum-known-place : tie.Need-enum-known-place Inv-loop μ-loop
 enum-known-place c = search needs
 
--- src/search.rt:110:27
 enum-told : tie.Need-enum-told Inv-loop μ-loop
 enum-told c = search needs
 
--- src/search.rt:110:13
 absent-requires-2 : tie.Need-absent-requires-2 Inv-loop μ-loop
 absent-requires-2 c κs = search needs
 
--- src/search.rt:110:13
 returns-2 : tie.Need-returns-2 Inv-loop μ-loop
 returns-2 c = let r = c .before .before .before in
     let l = r .before .before in
@@ -86,31 +68,24 @@ returns-2 c = let r = c .before .before .before in
     let d = depth-is (l .before .before) in
     rw (c .absent2 .ensures) (record { answer = rw (← d) e; path = rw (← d, ← p, ← n) })
 
--- src/search.rt:112:9
 child-of-requires : tie.Need-child-of-requires Inv-loop μ-loop
 child-of-requires c κs = search needs
 
--- src/search.rt:113:15
 cast-nodes : tie.Need-cast-nodes Inv-loop μ-loop
 cast-nodes c = search needs
 
--- src/search.rt:113:9
 mul-nodes : tie.Need-mul-nodes Inv-loop μ-loop
 mul-nodes c = search needs
 
--- src/search.rt:113:9
 array-write-nodes-2 : tie.Need-array-write-nodes-2 Inv-loop μ-loop
 array-write-nodes-2 c = search needs
 
--- src/search.rt:114:9
 add-len : tie.Need-add-len Inv-loop μ-loop
 add-len c = search needs
 
--- src/search.rt:107:5
 loop-less : tie.Need-loop-less Inv-loop μ-loop
 loop-less c = search needs
 
--- src/search.rt:107:5
 loop-again : tie.Need-loop-again Inv-loop μ-loop
 loop-again c = let r = c .before .before .before .before in
     let l = r .before .before in
@@ -118,11 +93,9 @@ loop-again c = let r = c .before .before .before .before in
     rw (c .child-of .ensures)
     (stored-child (view (s .args .image .now)) (s .args .k) _ _ _ _ (l .loop .inv) _ (r .before .loop-test .taken) (sym (r .highest-not-above .ensures) ∙ ap placeOf (c .before .before .place .given .1)))
 
--- src/search.rt:116:9
 in-leaf-requires : tie.Need-in-leaf-requires Inv-loop μ-loop
 in-leaf-requires c κs = search needs
 
--- src/search.rt:95:1
 returns-3 : tie.Need-returns-3 Inv-loop μ-loop
 returns-3 c = let l = c .before .before in
     let s = l .before .before .before .before .before in

@@ -1,6 +1,7 @@
+-- `search::highest_not_above` meets its contract. Assumes nothing.
 use native.Mathlib.Omega.{arith}
-use Prim.Native.Nat.{ℕ, _-_, _≤_}
-use mathlib.Core.Path.{_≡_, sym, ap, _∙_}
+use Prim.Native.Nat.{_-_, _≤_}
+use mathlib.Core.Path.{_≡_, ap, _∙_}
 use Rattle.btree.specs.Search.{highestOf}
 use Rattle.btree.specs.Header.{viewOf}
 use Rattle.extents.specs.Format.{view}
@@ -8,11 +9,6 @@ use Rattle.extents.proofs.Finding.{BestOf, best-none, best-more}
 use borrow.Author.Needs.{needs}
 use Rattle.extents.proofs.search.highest_not_above.Statement.{statement}
 use Rattle.extents.proofs.search.highest_not_above.Tie as tie
-use Rattle.extents.proofs.search.highest_not_above.Reads as reads
-use Rattle.extents.proofs.search.highest_not_above.Lts as lts
-use Rattle.extents.proofs.records.key_of.Reads as key-of-reads
-use Rattle.extents.proofs.search.better.Reads as better-reads
-use Rattle.hfs.proofs.node.count_of.Reads as count-of-reads
 
 abbrev Inv-loop : tie.InvT-loop
 Inv-loop image node k c best₀ i₀ best i = (i ≤ c) × BestOf (view image) node k i best
@@ -20,36 +16,28 @@ Inv-loop image node k c best₀ i₀ best i = (i ≤ c) × BestOf (view image) n
 abbrev μ-loop : tie.MeasureT-loop
 μ-loop image node k c best₀ i₀ best i = c - i
 
--- src/search.rt:61:9
 count-of-requires : tie.Need-count-of-requires Inv-loop μ-loop
 count-of-requires c κs = search needs
 
--- src/search.rt:68:5
 loop-holds : tie.Need-loop-holds Inv-loop μ-loop
 loop-holds c = (search needs, best-none _ _ _)
 
--- src/search.rt:69:32
 key-of-requires : tie.Need-key-of-requires Inv-loop μ-loop
 key-of-requires c κs = search needs
 
--- src/search.rt:69:9
 better-requires : tie.Need-better-requires Inv-loop μ-loop
 better-requires c κs = search needs
 
--- src/search.rt:70:9
 add-i : tie.Need-add-i Inv-loop μ-loop
 add-i c = search needs
 
--- src/search.rt:68:5
 loop-less : tie.Need-loop-less Inv-loop μ-loop
 loop-less c = search needs
 
--- src/search.rt:68:5
 loop-again : tie.Need-loop-again Inv-loop μ-loop
 loop-again c = let l = c .before .before .before in
     (search needs, rw (c .better .ensures, c .before .key-of .ensures .0) (best-more _ _ _ _ _ (l .loop .inv .1)))
 
--- src/search.rt:58:1
 returns : tie.Need-returns Inv-loop μ-loop
 unfolding viewOf
 returns c = let l = c .before in

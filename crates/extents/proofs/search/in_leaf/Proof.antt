@@ -1,34 +1,26 @@
+-- `search::in_leaf` meets its contract. Assumes nothing.
 use mathlib.Core.Path.{sym, ap, _∙_}
 use Rattle.btree.specs.Search.{inLeaf}
 use Rattle.extents.specs.Inner.{placeOf}
 use Rattle.extents.specs.Format.{view}
-use Prim.Native.Nat.{ℕ}
 use borrow.Author.Needs.{needs}
 use Rattle.extents.proofs.search.in_leaf.Statement.{statement}
 use Rattle.extents.proofs.search.in_leaf.Tie as tie
-use Rattle.extents.proofs.search.in_leaf.Reads as reads
-use Rattle.extents.proofs.search.in_leaf.Lts as lts
-use Rattle.extents.proofs.search.record_with.Reads as record-with-reads
 
--- src/search.rt:87:9
 record-with-requires : tie.Need-record-with-requires
 record-with-requires c κs = search needs
 
--- src/search.rt:89:19
 enum-known-place : tie.Need-enum-known-place
 enum-known-place c = search needs
 
--- src/search.rt:90:27
 enum-told : tie.Need-enum-told
 enum-told c = search needs
 
--- src/search.rt:84:1
 returns : tie.Need-returns
 returns c = let r = c .before .before .before in
     let a = r .before .before .args in
     ap (inLeaf (view (a .image .now)) (a .node)) (sym (ap placeOf (c .before .place .given .1)) ∙ r .record-with .ensures)
 
--- src/search.rt:84:1
 returns-2 : tie.Need-returns-2
 returns-2 c = let r = c .before .before in
     let a = r .before .before .args in
