@@ -14,6 +14,8 @@ use Rattle.btree.specs.Decide.{ifZero}
 use Rattle.btree.specs.Tree.{View, mapChain, reached}
 use Rattle.btree.specs.Walk.{Entry, nodesOf, lastOn, firstOr, firstOn, recordsOn, above, fails, test, closing, walk}
 use Rattle.hfs.specs.Frame.{Marks}
+use Rattle.extents.specs.declared.place.Place.{Place}
+use Rattle.extents.specs.declared.place.Place.the-variants.{At, Nowhere}
 use Rattle.extents.specs.declared.walk.Walk.{Walk}
 use Rattle.extents.specs.declared.walk.Pointer.{Pointer}
 use Rattle.extents.specs.Format.{view}
@@ -26,6 +28,11 @@ pick false a b = b
 pub record Tells (r : Bool) (P : Type 0) : Type 0 where
   pub holds : r ≡ true → P
   pub says : P → r ≡ true
+
+-- the record that a search in a node finds, as the code has it
+abbrev pub placeOf : Option ℕ → Place
+placeOf none = Nowhere
+placeOf (some i) = At i
 
 -- a bound on keys as the code has it: 2 ^ 56, above all of them, for none
 unfoldable pub bound : ℕ → Option ℕ

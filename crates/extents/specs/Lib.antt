@@ -1,4 +1,5 @@
 pub mod Key
 pub mod Format
 pub mod Reader
+pub mod Salvage
 pub mod Inner

@@ -1,16 +1,27 @@
 // The reader of the extents overflow file of an HFS volume. Any bytes are an image, and nobody has to have checked it first.
 ghost use mathlib.Core.Path.{_≡_};
 ghost use mathlib.Core.Logic.{_↔_};
-ghost use Rattle.extents.specs.Reader.{Sound, verdict};
+ghost use Rattle.image.specs.Part.{Lies};
+ghost use Rattle.extents.specs.Reader.{Sound, verdict, asked, salvage as salvageOf, seenPart};
+ghost use Rattle.extents.specs.Salvage.{SalvageSays};
+use btree::Salvage;
 use btree::Verdict;
 use hfs::header::header_right;
 use hfs::header::length_right;
 use hfs::map::map_chain;
 use hfs::map::map_tests;
+use image::part::no_part;
+use image::part::part_at;
+use key::is_lawful;
+use key::pack;
+use records::record_at;
+use seen::first_seen;
 use walk::tree_tests;
 
 pub mod key;
+pub mod place;
 pub mod records;
+pub mod seen;
 pub mod walk;
 
 // The first fault in the order of tests, number and place; 0 and 0 for a sound image.
@@ -47,4 +58,28 @@ pub fn check(image: &[u8]) -> Verdict
     }
     let reached = tree.visited;
     map_tests(image, reached, tree.nodes)
+}
+
+// The first record with the key in any whole leaf from node 1 up, in the tree or not. Seen proves nothing: a freed node may hold an old record.
+pub fn salvage(image: &[u8], file: u32, fork: u8, start: u16) -> Salvage
+    ensures equal { λ r. ⌜ r ≡ salvageOf (now (image .entry)) (asked file fork start) ⌝ }
+    ensures says { λ r. ⌜ SalvageSays (now (image .entry)) (asked file fork start) r ⌝ }
+{
+    if !is_lawful(fork as u32) {
+        return Salvage::Refused(11, 0);
+    }
+    if image.len() > 3_072_000 {
+        return Salvage::Refused(1, 0);
+    }
+    first_seen(image, pack(file, fork, start))
+}
+
+// The 12 data bytes of the record that `salvage` sees; else the empty part at the image's start.
+pub fn salvage_part<'a>(image: &'a [u8], file: u32, fork: u8, start: u16) -> &'a [u8]
+    ensures { λ r. ⌜ Lies (image .entry) r (seenPart (now (image .entry)) (salvageOf (now (image .entry)) (asked file fork start)) .at) (seenPart (now (image .entry)) (salvageOf (now (image .entry)) (asked file fork start)) .size) ⌝ }
+{
+    if let Salvage::Seen(node, i) = salvage(image, file, fork, start) {
+        return part_at(image, record_at(image, node, i) + 8, 12);
+    }
+    no_part(image)
 }
