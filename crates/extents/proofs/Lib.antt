@@ -15,3 +15,4 @@ pub mod Soundness
 pub mod Looking
 pub mod Whole
 pub mod Matches
+pub mod Salvaged

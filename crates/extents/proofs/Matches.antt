@@ -114,6 +114,15 @@ module _ (img : List ℕ) (k : ℕ) where
         go g NotSeen f = refl
         go g (Refused a b) f = absurd f
 
+    -- where there is a match, the first is seen
+    pub some-seen : (n i : ℕ) → P n i → (m : ℕ) × (j : ℕ) × (seenFrom img k 1 (total - 1) ≡ Seen m j) × First P m j
+    some-seen n i p = go (seenFrom img k 1 (total - 1)) (from (total - 1) 1)
+      where
+        go : (r : Salvage) → From 1 (total - 1) r → (m : ℕ) × (j : ℕ) × (r ≡ Seen m j) × First P m j
+        go (Seen m j) f = (m, j, refl, first-of (Seen m j) f .0 m j refl)
+        go NotSeen f = absurd (first-of NotSeen f .1 refl n i p)
+        go (Refused a b) f = absurd f
+
 module _ (img : List ℕ) (k : Key) where
   pub salvage-unlawful : (Lawful (k .fork) → ⊥) → salvage img k ≡ Refused 11 0
   unfolding salvage

@@ -64,3 +64,7 @@ Bytes img = (i : ℕ) → getD img i 0 < 256
 pub key-range : (img : List ℕ) → Bytes img → (at : ℕ) → InRange (keyAt img at)
 unfolding be16At
 key-range img b at = record { fork = b (at + 1); start = let x = b (at + 6) in let y = b (at + 6 + 1) in omega arith }
+
+pub packed-fork : (a b : Key) → InRange a → InRange b → packed a ≡ packed b → a .fork ≡ b .fork
+unfolding packed
+packed-fork a b ra rb e = omega arith

@@ -78,8 +78,9 @@ pub fn salvage(image: &[u8], file: u32, fork: u8, start: u16) -> Salvage
 pub fn salvage_part<'a>(image: &'a [u8], file: u32, fork: u8, start: u16) -> &'a [u8]
     ensures { λ r. ⌜ Lies (image .entry) r (seenPart (now (image .entry)) (salvageOf (now (image .entry)) (asked file fork start)) .at) (seenPart (now (image .entry)) (salvageOf (now (image .entry)) (asked file fork start)) .size) ⌝ }
 {
-    if let Salvage::Seen(node, i) = salvage(image, file, fork, start) {
-        return part_at(image, record_at(image, node, i) + 8, 12);
+    match salvage(image, file, fork, start) {
+        Salvage::Seen(node, i) => part_at(image, record_at(image, node, i) + 8, 12),
+        Salvage::NotSeen => no_part(image),
+        Salvage::Refused(_, _) => no_part(image),
     }
-    no_part(image)
 }

@@ -1,3 +1,4 @@
+-- `seen::first_seen` meets its contract: the nodes that are left give what all give. Assumes nothing.
 use Prim.Native.Nat.{_-_, _/_, _≤_}
 use mathlib.Core.Path.{_≡_, refl, sym, _∙_}
 use lib.ListN.{length}
@@ -6,9 +7,6 @@ use Rattle.extents.proofs.Looking.{place-at, place-nowhere, seen-end, s
 use borrow.Author.Needs.{needs}
 use Rattle.extents.proofs.seen.first_seen.Statement.{statement}
 use Rattle.extents.proofs.seen.first_seen.Tie as tie
-use Rattle.extents.proofs.seen.first_seen.Reads as reads
-use Rattle.extents.proofs.seen.first_seen.Lts as lts
-use Rattle.extents.proofs.seen.seen_in.Reads as seen-in-reads
 
 abbrev Inv-loop : tie.InvT-loop
 Inv-loop image k total node₀ node = (total ≤ 6000) × (1 ≤ node) × (seenFrom image k 1 (length image / 512 - 1) ≡ seenFrom image k node (total - node))
@@ -16,23 +14,18 @@ Inv-loop image k total node₀ node = (total ≤ 6000) × (1 ≤ node) × (seenF
 abbrev μ-loop : tie.MeasureT-loop
 μ-loop image k total node₀ node = total - node
 
--- src/seen.rt:38:17
 cast-total : tie.Need-cast-total Inv-loop μ-loop
 cast-total c = search needs
 
--- src/seen.rt:40:5
 loop-holds : tie.Need-loop-holds Inv-loop μ-loop
 loop-holds c = (search needs, search needs, refl)
 
--- src/seen.rt:41:31
 seen-in-requires : tie.Need-seen-in-requires Inv-loop μ-loop
 seen-in-requires c κs = search needs
 
--- src/seen.rt:41:26
 enum-known-i : tie.Need-enum-known-i Inv-loop μ-loop
 enum-known-i c = search needs
 
--- src/seen.rt:42:13
 returns : tie.Need-returns Inv-loop μ-loop
 returns c =
     let s = c .before .before .before in
@@ -41,21 +34,17 @@ returns c =
 enum-told : tie.Need-enum-told Inv-loop μ-loop
 enum-told c = search needs
 
--- src/seen.rt:44:9
 add-node : tie.Need-add-node Inv-loop μ-loop
 add-node c = search needs
 
--- src/seen.rt:40:5
 loop-less : tie.Need-loop-less Inv-loop μ-loop
 loop-less c = search needs
 
--- src/seen.rt:40:5
 loop-again : tie.Need-loop-again Inv-loop μ-loop
 loop-again c =
     let s = c .before .before in
     (search needs, search needs, s .before .before .loop .inv .2 ∙ seen-on _ _ _ _ (s .before .loop-test .taken) (place-nowhere _ (sym (s .seen-in .ensures) ∙ c .enum-told .given .1)))
 
--- src/seen.rt:34:1
 returns-2 : tie.Need-returns-2 Inv-loop μ-loop
 returns-2 c = sym (c .before .loop .inv .2 ∙ seen-end _ _ _ _ (c .loop-test .left))
 
