@@ -63,7 +63,7 @@ module _ (img : List ℕ) (s : Sound img) where
         let q = leaf-stands (view img) (s .tree) (s .totals) x listed in
         let (a, b, w) = leaf-counts (x .node) (q .leaf) in
         let (m, j, e, f) = some-seen img (packed k) (length img / 512) Hit (λ n i. (λ h. h, λ h. h)) (x .node) (x .at)
-              (a, b, record { counts = w; inside = q .inside; isKey = q .isKey ∙ same }) in
+        (a, b, record { counts = w; inside = q .inside; isKey = q .isKey ∙ same }) in
         let searched : Searched img k = record { lawful = lawful; few = let l = s .lengths .few in omega arith } in
         let (c, d, h) = f .here in
         record {
@@ -74,7 +74,7 @@ module _ (img : List ℕ) (s : Sound img) where
           has = h;
           notAfter = earliest m j f (a, b, record { counts = w; inside = q .inside; isKey = q .isKey ∙ same }) (decLt (x .node) m);
           own = λ l. let y = leafList-once (view img) (s .tree) (s .totals) _ x (leaf-listed (view img) (s .tree) (s .totals) m j l (h .inside)) listed (h .isKey ∙ sym same) in
-            (ap (λ (r : Rec). r .node) y, ap (λ (r : Rec). r .at) y);
+              (ap (λ (r : Rec). r .node) y, ap (λ (r : Rec). r .at) y);
         }
       where
         Hit : ℕ → ℕ → Type 0

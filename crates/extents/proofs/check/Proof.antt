@@ -36,37 +36,37 @@ length-right-requires : tie.Need-length-right-requires
 length-right-requires c κs = search needs
 
 returns : tie.Need-returns
-returns c =     let img = c .before .before .before .args .image .now in
+returns c = let img = c .before .before .before .args .image .now in
     both img _ (sym (fault-1 hfs img format (sym (c .before .length-right .ensures) ∙ not-true _ (c .if1 .taken))))
 
 header-right-requires : tie.Need-header-right-requires
 header-right-requires c κs = search needs
 
 returns-2 : tie.Need-returns-2
-returns-2 c =     let a = c .before .before in
+returns-2 c = let a = c .before .before in
     let img = a .before .before .before .args .image .now in
     both img _ (sym (fault-2 hfs img format (length-passed a) (sym (c .before .header-right .ensures) ∙ not-true _ (c .if2 .taken))))
 
 map-chain-requires : tie.Need-map-chain-requires
-map-chain-requires c κs =     let b = c in
+map-chain-requires c κs = let b = c in
     let a = b .before .before in
     few (a .before .before .before .args .image .now) (length-passed a) (header-passed b)
 
 returns-3 : tie.Need-returns-3
-returns-3 c =     let b = c .before .before .before in
+returns-3 c = let b = c .before .before .before in
     let a = b .before .before in
     let img = a .before .before .before .args .image .now in
     let e = c .before .before .map-chain .ensures .verdict in
     both img _ (e ∙ sym (fault-3 hfs img format (length-passed a) (header-passed b) (λ z. c .if3 .taken (ap (λ (t : Verdict). t .number) e ∙ z))))
 
 tree-tests-requires : tie.Need-tree-tests-requires
-tree-tests-requires c κs =     let x = c .before in
+tree-tests-requires c κs = let x = c .before in
     let b = x .before .before .before in
     let a = b .before .before in
     begins (a .before .before .before .args .image .now) (length-passed a) (header-passed b) (chain-passed x) _ (x .before .before .map-chain .ensures) (x .if3 .left)
 
 returns-4 : tie.Need-returns-4
-returns-4 c =     let x = c .before .before .before .before in
+returns-4 c = let x = c .before .before .before .before in
     let b = x .before .before .before in
     let a = b .before .before in
     let img = a .before .before .before .args .image .now in
@@ -74,13 +74,13 @@ returns-4 c =     let x = c .before .before .before .before in
     both img _ (e ∙ sym (fault-tree hfs img format (length-passed a) (header-passed b) (chain-passed x) (λ z. c .if4 .taken (ap (λ (t : Verdict). t .number) e ∙ z))))
 
 map-tests-requires : tie.Need-map-tests-requires
-map-tests-requires c κs =     let x = c .before .before .before .before .before in
+map-tests-requires c κs = let x = c .before .before .before .before .before in
     let b = x .before .before .before in
     let a = b .before .before in
     framed (a .before .before .before .args .image .now) (length-passed a) (header-passed b) (chain-passed x)
 
 returns-5 : tie.Need-returns-5
-returns-5 c =     let y = c .before .before in
+returns-5 c = let y = c .before .before in
     let x = y .before .before .before .before in
     let b = x .before .before .before in
     let a = b .before .before in

@@ -28,7 +28,7 @@ returns : tie.Need-returns
 returns c = both (c .before .before) _ (sym (salvage-unlawful _ _ (unsaid (decLawful _) (sym (c .before .is-lawful .ensures) ∙ not-true _ (c .if1 .taken)))))
 
 returns-2 : tie.Need-returns-2
-returns-2 c = both (c .before .before .before) _ (sym (salvage-long _ _ (lawful (c .before)) (c .if2 .taken)))
+returns-2 c = both (c .before .before .before) _ (sym (salvage-long _ _ (lawful (c .before)) (omega arith)))
 
 pack-requires : tie.Need-pack-requires
 pack-requires c κs = search needs
@@ -41,7 +41,7 @@ returns-3 c =
     let x = c .before .before in
     both (x .before .before .before) _
     (c .first-seen .ensures
-    ∙ rw (c .before .pack .ensures .0) (sym (salvage-searched _ _ (record { lawful = lawful (x .before); few = x .if2 .left }))))
+    ∙ rw (c .before .pack .ensures .0) (sym (salvage-searched _ _ (record { lawful = lawful (x .before); few = omega arith }))))
 
 pub salvage-spec : {M : Type 1} → statement M
 salvage-spec =

@@ -20,13 +20,13 @@ enum-known-node : tie.Need-enum-known-node
 enum-known-node c = search needs
 
 record-at-requires : tie.Need-record-at-requires
-record-at-requires c κs = room (c .before) .0
+record-at-requires c κs = omega (arith, room (c .before) .0)
 
 add-part-at : tie.Need-add-part-at
 add-part-at c = search needs
 
 part-at-requires : tie.Need-part-at-requires
-part-at-requires c κs = rw (c .record-at .ensures .0) (room (c .before .before) .1)
+part-at-requires c κs = omega (arith, c .record-at .ensures .0, room (c .before .before) .1)
 
 enum-told : tie.Need-enum-told
 enum-told c = search needs
