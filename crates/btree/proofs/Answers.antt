@@ -44,7 +44,10 @@ module _ (v : View) where
   pub with-some : (n k j : ℕ) → recordWith v n k 0 (count n) ≡ some j → (j < count n) × (key n j ≡ k)
   with-some n k j e = let (a, b, c, d) = subst (λ (o : Option ℕ). With n k 0 (count n) o) e (with-first n k 0 (count n)) in (omega arith, c)
 
-  with-none : (n k : ℕ) → recordWith v n k 0 (count n) ≡ none → (j : ℕ) → j < count n → key n j ≢ k
+  pub with-before : (n k j : ℕ) → recordWith v n k 0 (count n) ≡ some j → (x : ℕ) → x < j → key n x ≢ k
+  with-before n k j e x u = let (a, b, c, d) = subst (λ (o : Option ℕ). With n k 0 (count n) o) e (with-first n k 0 (count n)) in d x (omega arith) u
+
+  pub with-none : (n k : ℕ) → recordWith v n k 0 (count n) ≡ none → (j : ℕ) → j < count n → key n j ≢ k
   with-none n k e j u = subst (λ (o : Option ℕ). With n k 0 (count n) o) e (with-first n k 0 (count n)) j (omega arith) (omega arith)
 
   -- from a node with h levels below it

@@ -6,8 +6,7 @@ use mathlib.Core.List.{List}
 use Prim.Native.Nat.{ℕ, zero, suc, _+_, _≤_, _<_}
 use native.Mathlib.Omega.{arith}
 use native.Mathlib.Decide.{ℕ-discrete}
-use lib.ListN.{length, getD}
-use Rattle.image.specs.Bytes.{be16At}
+use lib.ListN.{length}
 use Rattle.btree.specs.declared.Answer.{Answer}
 use Rattle.btree.specs.declared.Answer.the-variants.{Found, Absent, Refused}
 use Rattle.btree.specs.declared.Lookup.{Lookup}
@@ -24,17 +23,9 @@ use Rattle.extents.specs.Format.{recordAt, keyOf, view}
 use Rattle.extents.specs.Reader.{Sound, verdict, leafList, searchPath, lookedUp, dataAt}
 use Rattle.extents.specs.Demands.{HasKey, SoundAnswer, LookupSays}
 use Rattle.extents.specs.Inner.{Descends}
-use Rattle.extents.proofs.Order.{InRange, same-key}
+use Rattle.extents.proofs.Order.{InRange, Bytes, key-range, packed-same}
 use Rattle.extents.proofs.Parts.{leaf-inside}
 use Rattle.extents.proofs.Soundness.{number-iff}
-
--- a list of bytes
-abbrev pub Bytes : List ℕ → Type 0
-Bytes img = (i : ℕ) → getD img i 0 < 256
-
-key-inRange : (img : List ℕ) → Bytes img → (at : ℕ) → InRange (keyAt img at)
-unfolding be16At
-key-inRange img b at = record { fork = b (at + 1); start = let x = b (at + 6) in let y = b (at + 6 + 1) in omega arith }
 
 module _ (img : List ℕ) (b : Bytes img) (k : Key) (r : InRange k) (s : Sound img) where
   -- a leaf record has the key where its packed key is that of the key
@@ -42,7 +33,7 @@ module _ (img : List ℕ) (b : Bytes img) (k : Key) (r : InRange k) (s : Sound i
   unfolding viewOf keyOf
   has-packed x m =
       let e = leaf-stands (view img) (s .tree) (s .totals) x m .isKey in
-      let q = same-key (keyAt img (recordAt img (x .node) (x .at))) k (key-inRange img b (recordAt img (x .node) (x .at))) r in
+      let q = packed-same (keyAt img (recordAt img (x .node) (x .at))) k (key-range img b (recordAt img (x .node) (x .at))) r in
       (λ h. sym e ∙ q .0 h, λ h. q .1 (e ∙ h))
 
   sound-answer : (l : Lookup) → l .answer ≡ answerOf (view img) (packed k) → l .path ≡ pathOut (searchPath img k) → SoundAnswer img k l

@@ -16,3 +16,7 @@ pub mod Bounds
 pub mod Sizes
 pub mod Order
 pub mod Soundness
+pub mod Looking
+pub mod Whole
+pub mod Matches
+pub mod Salvaged

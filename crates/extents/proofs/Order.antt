@@ -2,14 +2,17 @@
 -- Assumes nothing.
 use mathlib.Core.Path.{_≡_, refl, sym, _∙_}
 use mathlib.Core.Logic.{_↔_}
-use Prim.Native.Nat.{ℕ, _<_}
+use mathlib.Core.List.{List}
+use Prim.Native.Nat.{ℕ, _+_, _<_}
 use native.Mathlib.Omega.{arith}
 use native.Mathlib.Decide.{decLt}
 use lib.IntN.{ℤ, pos, negsuc}
+use lib.ListN.{getD}
+use Rattle.image.specs.Bytes.{be16At}
 use Rattle.btree.specs.Decide.{cond}
 use Rattle.btree.proofs.Decisions.{cond-yes, cond-no}
 use Rattle.extents.specs.declared.key.Key.{Key}
-use Rattle.extents.specs.Key.{packed, ranked, compared}
+use Rattle.extents.specs.Key.{packed, ranked, compared, keyAt}
 
 pub ranked-below : (a b : ℕ) (x : ℤ) → a < b → ranked a b x ≡ negsuc 0
 ranked-below a b x h = cond-yes (decLt a b) _ _ h
@@ -43,20 +46,6 @@ packed-order a b ra rb =
     (λ g. by-field (a .start) (b .start) _ _ _ _ (λ h. omega arith) (λ h. omega arith)
     (λ e. sym (ranked-same _ _ _ (omega arith)))))
 
--- a comparison answers 0 of equal keys alone
-ranked-zero : (a b : ℕ) → (ranked a b (pos 0) ≡ pos 0) ↔ (a ≡ b)
-ranked-zero a b = (λ e. go e (decLt a b) (decLt b a), ranked-same a b (pos 0))
-  where
-    go : ranked a b (pos 0) ≡ pos 0 → Dec (a < b) → Dec (b < a) → a ≡ b
-    go e (yes p) q = let y = ranked-below a b (pos 0) p in absurd (let z : _≡_ {A = ℕ} 0 1 = cc in omega arith)
-    go e (no p) (yes q) = let y = ranked-above a b (pos 0) q in absurd (let z : _≡_ {A = ℕ} 0 1 = cc in omega arith)
-    go e (no p) (no q) = omega arith
-
-pub same-key : (a b : Key) → InRange a → InRange b → (compared a b ≡ pos 0) ↔ (packed a ≡ packed b)
-same-key a b ra rb =
-    let e = packed-order a b ra rb in
-    (λ z. ranked-zero (packed a) (packed b) .0 (sym e ∙ z), λ q. e ∙ ranked-zero (packed a) (packed b) .1 q)
-
 -- an answer by the fields is one by the packed numbers
 pub by-packed : (a b : Key) (z : ℤ) → InRange a → InRange b → compared a b ≡ z → (z ≡ compared a b) × (z ≡ ranked (packed a) (packed b) (pos 0))
 by-packed a b z ra rb e = (sym e, sym e ∙ packed-order a b ra rb)
@@ -75,3 +64,27 @@ module _ (a b : Key) where
     pub by-start : (z : ℤ) → a .fork ≡ b .fork → ranked (a .start) (b .start) (pos 0) ≡ z → compared a b ≡ z
     unfolding compared
     by-start z g h = ranked-same (a .file) (b .file) _ f ∙ ranked-same (a .fork) (b .fork) _ g ∙ h
+
+ranked-zero : (a b : ℕ) → ranked a b (pos 0) ≡ pos 0 → a ≡ b
+ranked-zero a b e = go (decLt a b) (decLt b a)
+  where
+    go : Dec (a < b) → Dec (b < a) → a ≡ b
+    go (yes p) q = let x = ranked-below a b (pos 0) p in let z : _≡_ {A = ℕ} 0 1 = cc in absurd (omega arith)
+    go (no p) (yes q) = let x = ranked-above a b (pos 0) q in let z : _≡_ {A = ℕ} 0 1 = cc in absurd (omega arith)
+    go (no p) (no q) = omega arith
+
+-- keys compare as 0 exactly when their packed numbers are equal
+pub packed-same : (a b : Key) → InRange a → InRange b → (compared a b ≡ pos 0) ↔ (packed a ≡ packed b)
+packed-same a b ra rb = (λ e. ranked-zero _ _ (sym (packed-order a b ra rb) ∙ e), λ e. packed-order a b ra rb ∙ ranked-same _ _ _ e)
+
+-- every byte of the image is one
+abbrev pub Bytes : List ℕ → Type 0
+Bytes img = (i : ℕ) → getD img i 0 < 256
+
+pub key-range : (img : List ℕ) → Bytes img → (at : ℕ) → InRange (keyAt img at)
+unfolding be16At
+key-range img b at = record { fork = b (at + 1); start = let x = b (at + 6) in let y = b (at + 6 + 1) in omega arith }
+
+pub packed-fork : (a b : Key) → InRange a → InRange b → packed a ≡ packed b → a .fork ≡ b .fork
+unfolding packed
+packed-fork a b ra rb e = omega arith

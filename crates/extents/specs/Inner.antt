@@ -18,8 +18,8 @@ use Rattle.btree.specs.declared.Answer.the-variants.{Absent}
 use Rattle.btree.specs.declared.Lookup.{Lookup}
 use Rattle.btree.specs.Search.{pathOf, answerOf, pathOut}
 use Rattle.extents.specs.declared.search.Best.{Best}
-use Rattle.extents.specs.declared.search.Place.{Place}
-use Rattle.extents.specs.declared.search.Place.the-variants.{At, Nowhere}
+use Rattle.extents.specs.declared.place.Place.{Place}
+use Rattle.extents.specs.declared.place.Place.the-variants.{At, Nowhere}
 use Rattle.extents.specs.declared.walk.Walk.{Walk}
 use Rattle.extents.specs.declared.walk.Pointer.{Pointer}
 use Rattle.extents.specs.Format.{view}
@@ -32,6 +32,11 @@ pick false a b = b
 pub record Tells (r : Bool) (P : Type 0) : Type 0 where
   pub holds : r ≡ true → P
   pub says : P → r ≡ true
+
+-- the record that a search in a node finds, as the code has it
+abbrev pub placeOf : Option ℕ → Place
+placeOf none = Nowhere
+placeOf (some i) = At i
 
 -- a bound on keys as the code has it: 2 ^ 56, above all of them, for none
 unfoldable pub bound : ℕ → Option ℕ
@@ -148,10 +153,6 @@ pub record Ends (img : List ℕ) (r : Walk) : Type 0 where
   pub verdict : fails (r .number) (r .place) ≡ walk (view img)
   pub marks : r .number ≡ 0 → Marks (r .visited .bits) (reached (view img))
   pub count : r .number ≡ 0 → r .nodes ≡ length (reached (view img))
-
-abbrev pub placeOf : Place → Option ℕ
-placeOf (At i) = some i
-placeOf Nowhere = none
 
 -- the better of the best record so far and record i, whose key is this one, of those not above k
 unfoldable pub betterOf : Best → ℕ → ℕ → ℕ → Best

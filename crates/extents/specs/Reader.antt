@@ -79,6 +79,10 @@ decWholeLeaf img n =
     (λ w. (w .records, record { rise = w .ascend; within = λ i u. (omega arith, tt) }))
     (Dec·and (decRecords img leafKind n) (decOrdered (view img) 0 none n))
 
+-- the record of the node n that has the key k, if the node counts
+unfoldable pub seenIn : List ℕ → ℕ → ℕ → Option ℕ
+seenIn img k n = cond (decWholeLeaf img n) (search.recordWith (view img) n k 0 (countOf hfs img n)) none
+
 abbrev pub seenOr : ℕ → Option ℕ → Salvage → Salvage
 seenOr n none r = r
 seenOr n (some i) r = Seen n i
@@ -86,12 +90,11 @@ seenOr n (some i) r = Seen n i
 -- the first node from n on, of as many as are left, that counts and has the key k: "The first match is seen"
 unfoldable pub seenFrom : List ℕ → ℕ → ℕ → ℕ → Salvage
 seenFrom img k n zero = NotSeen
-seenFrom img k n (suc left) =
-    seenOr n (cond (decWholeLeaf img n) (search.recordWith (view img) n k 0 (countOf hfs img n)) none) (seenFrom img k (suc n) left)
+seenFrom img k n (suc left) = seenOr n (seenIn img k n) (seenFrom img k (suc n) left)
 
 -- "Salvage tests 11, then length: more than 3,072,000 bytes is 1; any other length is taken, and a broken last node is ignored. From node 1 up"
-unfoldable pub salvage : List ℕ → Key → Salvage
-salvage img k =
+unfoldable pub salvaged : List ℕ → Key → Salvage
+salvaged img k =
     cond (decLawful (k .fork))
     (cond (decLe (length img) (hfs .maxNodes * hfs .nodeSize)) (seenFrom img (packed k) 1 (length img / hfs .nodeSize - 1)) (Refused 1 0))
     (Refused 11 0)

@@ -2,11 +2,13 @@
 ghost use mathlib.Core.Path.{_≡_};
 ghost use mathlib.Core.Logic.{_↔_};
 ghost use Rattle.btree.specs.Search.{refused};
-ghost use Rattle.extents.specs.Reader.{Sound, verdict, asked, lookedUp, foundPart};
+ghost use Rattle.extents.specs.Reader.{Sound, verdict, asked, lookedUp, foundPart, salvaged, seenPart};
 ghost use Rattle.extents.specs.Demands.{LookupSays, PartOf};
 use btree::Answer;
 use btree::Lookup;
 use btree::Path;
+ghost use Rattle.extents.specs.Salvage.{SalvageSays};
+use btree::Salvage;
 use btree::Verdict;
 use hfs::header::header_right;
 use hfs::header::length_right;
@@ -18,11 +20,14 @@ use key::is_lawful;
 use key::pack;
 use records::record_at;
 use search::descend;
+use seen::first_seen;
 use walk::tree_tests;
 
 pub mod key;
+pub mod place;
 pub mod records;
 pub mod search;
+pub mod seen;
 pub mod walk;
 
 // The first fault in the order of tests, number and place; 0 and 0 for a sound image.
@@ -97,5 +102,30 @@ pub fn lookup_part<'a>(image: &'a [u8], file: u32, fork: u8, start: u16) -> &'a 
         Answer::Found(node, i) => part_at(image, record_at(image, node, i) + 8, 12),
         Answer::Absent(_) => no_part(image),
         Answer::Refused(_, _) => no_part(image),
+    }
+}
+
+// The first record with the key in any whole leaf from node 1 up, in the tree or not. Seen proves nothing: a freed node may hold an old record.
+pub fn salvage(image: &[u8], file: u32, fork: u8, start: u16) -> Salvage
+    ensures equal { λ r. ⌜ r ≡ salvaged (now (image .entry)) (asked file fork start) ⌝ }
+    ensures says { λ r. ⌜ SalvageSays (now (image .entry)) (asked file fork start) r ⌝ }
+{
+    if !is_lawful(fork as u32) {
+        return Salvage::Refused(11, 0);
+    }
+    if image.len() > 3_072_000 {
+        return Salvage::Refused(1, 0);
+    }
+    first_seen(image, pack(file, fork, start))
+}
+
+// The 12 data bytes of the record that `salvage` sees; else the empty part at the image's start.
+pub fn salvage_part<'a>(image: &'a [u8], file: u32, fork: u8, start: u16) -> &'a [u8]
+    ensures { λ r. ⌜ PartOf (image .entry) r (seenPart (now (image .entry)) (salvaged (now (image .entry)) (asked file fork start))) ⌝ }
+{
+    match salvage(image, file, fork, start) {
+        Salvage::Seen(node, i) => part_at(image, record_at(image, node, i) + 8, 12),
+        Salvage::NotSeen => no_part(image),
+        Salvage::Refused(_, _) => no_part(image),
     }
 }

@@ -1,9 +1,11 @@
 // The search in one node, and the descent from the root to a leaf.
 ghost use mathlib.Core.Path.{_≡_};
 ghost use Prim.Native.Nat.{_≤_};
-ghost use Rattle.btree.specs.Search.{highestOf, recordWith, answerFrom};
+ghost use Rattle.btree.specs.Search.{highestOf, answerFrom};
 ghost use Rattle.extents.specs.Format.{view};
 ghost use Rattle.extents.specs.Inner.{placeOf, betterOf, stoppedAt, Descends};
+use super::place::Place;
+use super::place::record_with;
 use super::records::child_of;
 use super::records::key_of;
 use btree::Answer;
@@ -12,27 +14,6 @@ use btree::Path;
 use hfs::node::count_of;
 use image::bytes::be16;
 use image::bytes::be32;
-
-// A record of a node.
-pub enum Place {
-    At(u32),
-    Nowhere,
-}
-
-// The first record of a node with this key.
-pub fn record_with(image: &[u8], node: u32, k: u64) -> Place
-    ensures { λ r. ⌜ placeOf r ≡ recordWith (view (now (image .entry))) node k 0 (view (now (image .entry)) .count node) ⌝ }
-{
-    let c = count_of(image, node);
-    let mut i: u32 = 0;
-    while i < c {
-        if key_of(image, node, i) == k {
-            return Place::At(i);
-        }
-        i += 1;
-    }
-    Place::Nowhere
-}
 
 // The best record so far and its key, 0 where there is none.
 pub struct Best {
@@ -56,7 +37,7 @@ fn better(best: Best, i: u32, key: u64, k: u64) -> Best
 
 // The record with the highest key not above this one.
 pub fn highest_not_above(image: &[u8], node: u32, k: u64) -> Place
-    ensures { λ r. ⌜ placeOf r ≡ highestOf (view (now (image .entry))) node k (view (now (image .entry)) .count node) ⌝ }
+    ensures { λ r. ⌜ r ≡ placeOf (highestOf (view (now (image .entry))) node k (view (now (image .entry)) .count node)) ⌝ }
 {
     let c = count_of(image, node);
     let nowhere = Place::Nowhere;

@@ -1,6 +1,6 @@
 -- `lookup` meets its contract. Assumes nothing.
 use Rattle.btree.specs.Search.{refused}
-use Rattle.extents.proofs.Demands.{Bytes, lookup-unlawful, lookup-refused, descended, answered}
+use Rattle.extents.proofs.Demands.{lookup-unlawful, lookup-refused, descended, answered}
 use native.Mathlib.Omega.{arith}
 use mathlib.Core.Path.{sym, ap, _∙_}
 use borrow.Author.Tests.{not-true, not-false}
@@ -9,7 +9,7 @@ use Rattle.btree.specs.Header.{viewOf}
 use Rattle.btree.specs.declared.Verdict.{Verdict}
 use Rattle.extents.specs.Reader.{asked}
 use Rattle.extents.specs.Key.{Lawful, decLawful}
-use Rattle.extents.proofs.Order.{InRange}
+use Rattle.extents.proofs.Order.{InRange, Bytes}
 use borrow.Author.Needs.{needs}
 use Rattle.extents.proofs.lookup.Statement.{statement}
 use Rattle.extents.proofs.lookup.Tie as tie

@@ -5,8 +5,8 @@ use Rattle.btree.specs.declared.Lookup.{Lookup}
 use Rattle.btree.specs.declared.Answer.{Answer}
 use Rattle.extents.specs.Reader.{asked, lookedUp}
 use Rattle.extents.specs.declared.key.Key.{Key}
-use Rattle.extents.proofs.Order.{InRange}
-use Rattle.extents.proofs.Demands.{Bytes, found-inside}
+use Rattle.extents.proofs.Order.{InRange, Bytes}
+use Rattle.extents.proofs.Demands.{found-inside}
 use borrow.Author.Needs.{needs}
 use Rattle.extents.proofs.lookup_part.Statement.{statement}
 use Rattle.extents.proofs.lookup_part.Tie as tie

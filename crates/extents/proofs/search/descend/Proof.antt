@@ -4,7 +4,7 @@ use Prim.Native.Nat.{ℕ, _-_}
 use mathlib.Core.Path.{_≡_, sym, ap, _∙_}
 use Rattle.btree.specs.Search.{pathAt, answerAt, pathOut}
 use Rattle.btree.specs.Header.{viewOf}
-use Rattle.extents.specs.Inner.{placeOf}
+use Rattle.extents.proofs.Looking.{place-at, place-nowhere}
 use Rattle.extents.specs.Format.{view}
 use Rattle.extents.proofs.Descent.{Stored, stored-root, stored-child, stops-path, ends-path}
 use borrow.Author.Needs.{needs}
@@ -64,7 +64,7 @@ returns-2 c = let r = c .before .before .before in
     let l = r .before .before in
     let s = l .before .before .before .before .before in
     let v = view (s .args .image .now) in
-    let (p, n, e) = stops-path v (s .args .k) _ _ _ _ (l .loop .inv) (r .before .loop-test .taken) (sym (r .highest-not-above .ensures) ∙ ap placeOf (c .before .enum-told .given .1)) in
+    let (p, n, e) = stops-path v (s .args .k) _ _ _ _ (l .loop .inv) (r .before .loop-test .taken) (place-nowhere _ (sym (r .highest-not-above .ensures) ∙ c .before .enum-told .given .1)) in
     let d = depth-is (l .before .before) in
     rw (c .absent2 .ensures) (record { answer = rw (← d) e; path = rw (← d, ← p, ← n) })
 
@@ -91,7 +91,7 @@ loop-again c = let r = c .before .before .before .before in
     let l = r .before .before in
     let s = l .before .before .before .before .before in
     rw (c .child-of .ensures)
-    (stored-child (view (s .args .image .now)) (s .args .k) _ _ _ _ (l .loop .inv) _ (r .before .loop-test .taken) (sym (r .highest-not-above .ensures) ∙ ap placeOf (c .before .before .place .given .1)))
+    (stored-child (view (s .args .image .now)) (s .args .k) _ _ _ _ (l .loop .inv) _ (r .before .loop-test .taken) (place-at _ _ (sym (r .highest-not-above .ensures) ∙ c .before .before .place .given .1)))
 
 in-leaf-requires : tie.Need-in-leaf-requires Inv-loop μ-loop
 in-leaf-requires c κs = search needs

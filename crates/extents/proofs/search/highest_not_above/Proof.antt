@@ -1,9 +1,10 @@
 -- `search::highest_not_above` meets its contract. Assumes nothing.
 use native.Mathlib.Omega.{arith}
-use Prim.Native.Nat.{_-_, _≤_}
+use Prim.Native.Nat.{ℕ, _-_, _≤_}
 use mathlib.Core.Path.{_≡_, ap, _∙_}
 use Rattle.btree.specs.Search.{highestOf}
 use Rattle.btree.specs.Header.{viewOf}
+use Rattle.extents.specs.Inner.{placeOf}
 use Rattle.extents.specs.Format.{view}
 use Rattle.extents.proofs.Finding.{BestOf, best-none, best-more}
 use borrow.Author.Needs.{needs}
@@ -43,7 +44,7 @@ unfolding viewOf
 returns c = let l = c .before in
     let a = l .before .before .before .args in
     let e : l .loop .i ≡ l .before .count-of .result = omega arith in
-    l .loop .inv .1 .is ∙ ap (highestOf (view (a .image .now)) (a .node) (a .k)) (e ∙ l .before .count-of .ensures .0)
+    l .loop .inv .1 .is ∙ ap (λ (j : ℕ). placeOf (highestOf (view (a .image .now)) (a .node) (a .k) j)) (e ∙ l .before .count-of .ensures .0)
 
 pub highest-not-above-spec : {M : Type 1} → statement M
 highest-not-above-spec =

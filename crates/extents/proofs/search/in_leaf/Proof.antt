@@ -1,7 +1,7 @@
 -- `search::in_leaf` meets its contract. Assumes nothing.
 use mathlib.Core.Path.{sym, ap, _∙_}
-use Rattle.btree.specs.Search.{inLeaf}
-use Rattle.extents.specs.Inner.{placeOf}
+use Rattle.btree.specs.Search.{inLeaf, recordWith}
+use Rattle.extents.proofs.Looking.{place-at, place-nowhere}
 use Rattle.extents.specs.Format.{view}
 use borrow.Author.Needs.{needs}
 use Rattle.extents.proofs.search.in_leaf.Statement.{statement}
@@ -17,14 +17,18 @@ enum-told : tie.Need-enum-told
 enum-told c = search needs
 
 returns : tie.Need-returns
-returns c = let r = c .before .before .before in
+returns c =
+    let r = c .before .before .before in
     let a = r .before .before .args in
-    ap (inLeaf (view (a .image .now)) (a .node)) (sym (ap placeOf (c .before .place .given .1)) ∙ r .record-with .ensures)
+    let v = view (a .image .now) in
+    ap (inLeaf v (a .node)) (sym (place-at (recordWith v (a .node) (a .k) 0 (v .count (a .node))) _ (sym (r .record-with .ensures) ∙ c .before .place .given .1)))
 
 returns-2 : tie.Need-returns-2
-returns-2 c = let r = c .before .before in
+returns-2 c =
+    let r = c .before .before in
     let a = r .before .before .args in
-    ap (inLeaf (view (a .image .now)) (a .node)) (sym (ap placeOf (c .enum-told .given .1)) ∙ r .record-with .ensures)
+    let v = view (a .image .now) in
+    ap (inLeaf v (a .node)) (sym (place-nowhere (recordWith v (a .node) (a .k) 0 (v .count (a .node))) (sym (r .record-with .ensures) ∙ c .enum-told .given .1)))
 
 pub in-leaf-spec : {M : Type 1} → statement M
 in-leaf-spec =

@@ -1,0 +1,47 @@
+-- What salvage says of an image and a key, rule by rule.
+-- Assumes nothing.
+use mathlib.Core.Path.{_≡_}
+use mathlib.Core.Logic.{_↔_}
+use mathlib.Core.List.{List}
+use Prim.Native.Nat.{ℕ, _/_, _<_, _≤_}
+use lib.IntN.{pos}
+use lib.ListN.{length}
+use Rattle.btree.specs.declared.Salvage.{Salvage}
+use Rattle.btree.specs.declared.Salvage.the-variants.{Seen, NotSeen, Refused}
+use Rattle.btree.specs.Header.{countOf}
+use Rattle.hfs.specs.Hfs.{hfs}
+use Rattle.extents.specs.declared.key.Key.{Key}
+use Rattle.extents.specs.Key.{Lawful, compared, keyAt}
+use Rattle.extents.specs.Format.{recordAt}
+use Rattle.extents.specs.Reader.{WholeLeaf}
+
+-- record i of the node n is a match
+pub record Match (img : List ℕ) (k : Key) (n i : ℕ) : Type 0 where
+  -- "From node 1 up"
+  pub afterHeader : 1 ≤ n
+  -- "a broken last node is ignored"
+  pub complete : n < length img / 512
+  -- "a node counts if it is kind FF, passes the tests of 5 without the level, and its keys strictly ascend"
+  pub counts : WholeLeaf img n
+  pub inside : i < countOf hfs img n
+  -- "A record has the asked key when the two keys compare as 0."
+  pub isKey : compared (keyAt img (recordAt img n i)) k ≡ pos 0
+
+-- "The first match is seen": among matches in any words, record i of the node n comes first
+pub record First (P : ℕ → ℕ → Type 0) (n i : ℕ) : Type 0 where
+  pub here : P n i
+  pub noneInNode : (j : ℕ) → j < i → P n j → ⊥
+  pub noneEarlier : (m j : ℕ) → m < n → P m j → ⊥
+
+-- "Salvage tests 11, then length": the key is lawful and the image not too long
+pub record Searched (img : List ℕ) (k : Key) : Type 0 where
+  pub lawful : Lawful (k .fork)
+  pub few : length img ≤ 3072000
+
+pub record SalvageSays (img : List ℕ) (k : Key) (r : Salvage) : Type 0 where
+  -- 11: "asked key has a fork byte other than 00 or FF"
+  pub unlawful : (Lawful (k .fork) → ⊥) → r ≡ Refused 11 0
+  -- "more than 3,072,000 bytes is 1; any other length is taken"
+  pub long : Lawful (k .fork) → 3072000 < length img → r ≡ Refused 1 0
+  pub seen : Searched img k → (n i : ℕ) → (r ≡ Seen n i) ↔ First (Match img k) n i
+  pub notSeen : Searched img k → (r ≡ NotSeen) ↔ ((n i : ℕ) → Match img k n i → ⊥)
