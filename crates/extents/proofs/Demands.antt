@@ -8,9 +8,8 @@ use native.Mathlib.Omega.{arith}
 use native.Mathlib.Decide.{ℕ-discrete}
 use lib.ListN.{length}
 use Rattle.btree.specs.declared.Answer.{Answer}
-use Rattle.btree.specs.declared.Answer.the-variants.{Found, Absent, Refused}
+use Rattle.btree.specs.declared.Answer.the-variants.{Found, Absent}
 use Rattle.btree.specs.declared.Lookup.{Lookup}
-use Rattle.btree.specs.declared.Verdict.{Verdict}
 use Rattle.btree.specs.Lists.{_∈_, lastOr}
 use Rattle.btree.specs.Tree.{Rec, leavesAt}
 use Rattle.btree.specs.Header.{depthOf, viewOf}
@@ -18,7 +17,7 @@ use Rattle.btree.specs.Search.{pathOf, answerOf, pathOut, refused, afterCheck, 
 use Rattle.btree.proofs.Paths.{path-short, leaf-stands, leafList-once}
 use Rattle.btree.proofs.Answers.{found-record, record-found, absent-none, none-absent, absent-place}
 use Rattle.extents.specs.declared.key.Key.{Key}
-use Rattle.extents.specs.Key.{Lawful, decLawful, packed, compared, keyAt}
+use Rattle.extents.specs.Key.{Lawful, decLawful, packed, keyAt}
 use Rattle.extents.specs.Format.{recordAt, keyOf, view}
 use Rattle.extents.specs.Reader.{Sound, verdict, leafList, searchPath, lookedUp, dataAt}
 use Rattle.extents.specs.Demands.{HasKey, SoundAnswer, LookupSays}

@@ -1,14 +1,12 @@
 -- What the tests that passed say of an image, for those that follow.
 -- Assumes nothing.
-use mathlib.Core.Path.{_≡_, sym, ap, _∙_}
+use mathlib.Core.Path.{_≡_}
 use mathlib.Core.Bool.{true}
 use mathlib.Core.List.{List, []}
-use Prim.Native.Nat.{ℕ, _≤_, _<_}
+use Prim.Native.Nat.{ℕ, _≤_}
 use native.Mathlib.Omega.{arith}
-use lib.ListN.{length}
-use Rattle.btree.specs.declared.Verdict.{Verdict}
 use Rattle.btree.specs.Decide.{says}
-use Rattle.btree.specs.Header.{depthOf, totalOf, mapNodes, viewOf}
+use Rattle.btree.specs.Header.{totalOf, mapNodes, viewOf}
 use Rattle.btree.specs.Image.{Lengths, HeaderNode, MapChain}
 use Rattle.btree.specs.Tests.{decLengths, decHeaderNode, chainFrom}
 use Rattle.btree.proofs.Decisions.{said}

@@ -1,6 +1,6 @@
 -- Numeric order of packed keys is key order.
 -- Assumes nothing.
-use mathlib.Core.Path.{_≡_, refl, sym, _∙_}
+use mathlib.Core.Path.{_≡_, sym, _∙_}
 use mathlib.Core.Logic.{_↔_}
 use mathlib.Core.List.{List}
 use Prim.Native.Nat.{ℕ, _+_, _<_}
@@ -9,7 +9,6 @@ use native.Mathlib.Decide.{decLt}
 use lib.IntN.{ℤ, pos, negsuc}
 use lib.ListN.{getD}
 use Rattle.image.specs.Bytes.{be16At}
-use Rattle.btree.specs.Decide.{cond}
 use Rattle.btree.proofs.Decisions.{cond-yes, cond-no}
 use Rattle.extents.specs.declared.key.Key.{Key}
 use Rattle.extents.specs.Key.{packed, ranked, compared, keyAt}

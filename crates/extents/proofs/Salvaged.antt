@@ -1,23 +1,23 @@
 -- Every leaf record of a sound image is seen.
 -- Assumes nothing.
-use mathlib.Core.Path.{_≡_, refl, sym, ap, _∙_}
-use mathlib.Core.List.{List, List·Memᴰ·not-nil}
-use Prim.Native.Nat.{ℕ, zero, suc, _+_, _/_, _<_, _≤_}
+use mathlib.Core.Path.{_≡_, sym, ap, _∙_}
+use mathlib.Core.List.{List}
+use Prim.Native.Nat.{ℕ, _/_, _<_, _≤_}
 use native.Mathlib.Omega.{arith}
-use native.Mathlib.Decide.{ℕ-discrete, decLt}
+use native.Mathlib.Decide.{decLt}
 use lib.ListN.{length}
 use Rattle.btree.specs.declared.Salvage.the-variants.{Seen}
 use Rattle.btree.specs.Lists.{_∈_}
-use Rattle.btree.specs.Tree.{Rec, OnLevel, leavesAt}
-use Rattle.btree.specs.Header.{depthOf, viewOf}
-use Rattle.btree.proofs.Decisions.{cond-yes}
+use Rattle.btree.specs.Tree.{Rec, leavesAt}
+use Rattle.btree.specs.Header.{viewOf}
 use Rattle.btree.proofs.Paths.{leaf-stands, leaf-listed, leafList-once}
 use Rattle.extents.specs.declared.key.Key.{Key}
 use Rattle.extents.specs.Key.{Lawful, packed, keyAt}
-use Rattle.extents.specs.Format.{leafKind, indexKind, kindOn, keyOf, recordAt, view}
+use Rattle.extents.specs.Format.{keyOf, recordAt, view}
 use Rattle.extents.specs.Reader.{Sound, leafList, WholeLeaf, salvaged}
 use Rattle.extents.specs.Salvage.{First, Searched}
 use Rattle.extents.proofs.Order.{InRange, Bytes, key-range, packed-fork}
+use Rattle.extents.proofs.Parts.{leaf-level, leaf-records}
 use Rattle.extents.proofs.Matches.{Has, some-seen, salvage-searched}
 
 -- the leaves of the tree
@@ -43,19 +43,13 @@ pub record Kept (img : List ℕ) (k : Key) (x : Rec) : Type 0 where
 module _ (img : List ℕ) (s : Sound img) where
   -- a leaf of a sound tree counts
   leaf-counts : (n : ℕ) → n ∈ leavesOf img → (1 ≤ n) × (n < length img / 512) × WholeLeaf img n
-  unfolding viewOf kindOn
-  leaf-counts n = go (depthOf img) refl
-    where
-      go : (h : ℕ) → depthOf img ≡ h → n ∈ leavesAt (view img) h → (1 ≤ n) × (n < length img / 512) × WholeLeaf img n
-      go zero e m = absurd (List·Memᴰ·not-nil m)
-      go (suc h) e m =
-          let o : OnLevel (view img) h n = record { deep = omega arith; among = m } in
-          let r = s .nodes h n o .records in
-          let k = cond-yes (ℕ-discrete (h + 1) (depthOf img)) leafKind indexKind (omega arith) in
-          let z = s .tree .nonzero h n o in
-          let l = s .tree .inRange h n o in
-          let t = s .header .totalNodes in
-          (omega arith, omega arith, record { records = rw k at r; ascend = λ i u. s .tree .ascend h n i o u })
+  unfolding viewOf
+  leaf-counts n m =
+      let (h, e, o) = leaf-level img n m in
+      let (r, l) = leaf-records img s n m in
+      let z = s .tree .nonzero h n o in
+      let t = s .header .totalNodes in
+      (omega arith, omega arith, record { records = r; ascend = λ i u. s .tree .ascend h n i o u })
 
   module _ (k : Key) (lawful : Lawful (k .fork)) (x : Rec) (listed : x ∈ leafList img) (same : x .key ≡ packed k) where
     pub kept : Kept img k x

@@ -10,7 +10,7 @@ use Rattle.btree.specs.Header.{viewOf}
 use Rattle.btree.specs.Walk.{decOrdered}
 use Rattle.btree.proofs.Decisions.{says-no, says-same, said, unsaid}
 use Rattle.extents.specs.Format.{leafKind, decRecords, view}
-use Rattle.extents.specs.Reader.{WholeLeaf, decWholeLeaf}
+use Rattle.extents.specs.Reader.{decWholeLeaf}
 use Rattle.extents.specs.Inner.{bound}
 
 module _ (img : List ℕ) (n : ℕ) where
