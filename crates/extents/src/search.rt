@@ -36,7 +36,7 @@ fn better(best: Best, i: u32, key: u64, k: u64) -> Best
 }
 
 // The record with the highest key not above this one.
-pub fn highest_not_above(image: &[u8], node: u32, k: u64) -> Place
+fn highest_not_above(image: &[u8], node: u32, k: u64) -> Place
     ensures { λ r. ⌜ r ≡ placeOf (highestOf (view (now (image .entry))) node k (view (now (image .entry)) .count node)) ⌝ }
 {
     let c = count_of(image, node);

@@ -215,7 +215,7 @@ fn pointer_at(image: &[u8], node: u32, i: u32, c: u32, high: u64) -> Pointer
 }
 
 // Each node before its children, children left to right; the levels still below the node fall.
-pub fn visit(
+fn visit(
     image: &[u8],
     w: Walk,
     node: u32,
