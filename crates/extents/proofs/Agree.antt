@@ -86,7 +86,7 @@ module _ (v : View) (small : v .total ≤ 6000) (shallow : v .depth ≤ 8) where
         record {
           long = rw length-set (a .long);
           wide = rw length-set (a .wide);
-          marks = marks-more (w .visited .bits) _ (met v done) (e .node) (omega (arith, range)) (a .marks) (marked-with (w .visited .bits) (e .node) (omega (arith, range)) room);
+          marks = marks-more (w .visited) _ (met v done) (e .node) (omega (arith, range)) (a .marks) (marked-with (w .visited) (e .node) (omega (arith, range)) room);
           lasts = λ d l. last d l (ℕ-discrete (e .level) d);
           first = first (ℕ-discrete (e .level) (pred (v .depth)));
           records = records (ℕ-discrete (e .level) (pred (v .depth)));
@@ -94,7 +94,7 @@ module _ (v : View) (small : v .total ≤ 6000) (shallow : v .depth ≤ 8) where
           number = a .number;
         }
       where
-        room : e .node / 8 < length (w .visited .bits)
+        room : e .node / 8 < length (w .visited)
         room = let k = a .long in omega arith
 
         last : (d : ℕ) → d < 8 → (q : Dec (e .level ≡ d)) → getD (set (w .last) (e .level) (e .node)) d 0 ≡ cond q (e .node) (lastOn d done)

@@ -65,7 +65,7 @@ module _ (v : View) where
       omega arith
 
 -- the state before the walk agrees with no entries
-pub begun : (v : View) (w : Walk) → length (w .visited .bits) ≡ 750 → Marks (w .visited .bits) (0 ∷ mapChain v) → w .nodes ≡ suc (length (mapChain v))
+pub begun : (v : View) (w : Walk) → length (w .visited) ≡ 750 → Marks (w .visited) (0 ∷ mapChain v) → w .nodes ≡ suc (length (mapChain v))
     → w .last ≡ replicate 8 0 → w .records ≡ 0 → w .first ≡ 0 → w .number ≡ 0 → Agrees v w []
 begun v w long marks nodes last records first number =
     record {

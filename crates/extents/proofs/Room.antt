@@ -38,15 +38,15 @@ pub small-stopped : (w : Walk) (t : Verdict) → Small w → Small (stopped w t)
 unfolding stopped
 small-stopped w t s = record { records = s .records; nodes = s .nodes }
 
-pub small-kept : (w : Walk) (n d : ℕ) (leaf : Bool) (c : ℕ) → n < 6000 → length (w .visited .bits) ≡ 750 → bitOf (w .visited .bits) n ≡ 0 → pick leaf c 0 ≤ 22 → Small w
+pub small-kept : (w : Walk) (n d : ℕ) (leaf : Bool) (c : ℕ) → n < 6000 → length (w .visited) ≡ 750 → bitOf (w .visited) n ≡ 0 → pick leaf c 0 ≤ 22 → Small w
     → Small (kept w n d leaf c)
 unfolding kept
 small-kept w n d leaf c h l u f s =
-    let e = ones-more (w .visited .bits) n (omega arith) u 6000 h in
+    let e = ones-more (w .visited) n (omega arith) u 6000 h in
     record { records = rw e (omega (arith, s .records)); nodes = rw e (omega (arith, s .nodes)) }
 
 pub records-fit : (w : Walk) → Small w → w .records < 1000000
-records-fit w s = omega (arith, s .records, ones-le (w .visited .bits) 6000)
+records-fit w s = omega (arith, s .records, ones-le (w .visited) 6000)
 
 pub nodes-fit : (w : Walk) → Small w → w .nodes < 1000000
-nodes-fit w s = omega (arith, s .nodes, ones-le (w .visited .bits) 6000)
+nodes-fit w s = omega (arith, s .nodes, ones-le (w .visited) 6000)

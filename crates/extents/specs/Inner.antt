@@ -44,7 +44,7 @@ bound x = pick (eqb x 72057594037927936) none (some x)
 
 -- test 4: the bits set are those of the header, the map chain and the nodes met
 unfoldable pub freshIn : ℕ → Walk → ℕ → Bool
-freshIn total w n = pick (ltb n total) (eqb (bitOf (w .visited .bits) n) 0) false
+freshIn total w n = pick (ltb n total) (eqb (bitOf (w .visited) n) 0) false
 
 unfoldable pub stopped : Walk → Verdict → Walk
 stopped w t =
@@ -58,7 +58,7 @@ firstWith leaf first n = pick leaf (firstOr first n) first
 unfoldable pub kept : Walk → ℕ → ℕ → Bool → ℕ → Walk
 kept w n d leaf c =
     record {
-      visited = record { bits = withBit (w .visited .bits) n };
+      visited = withBit (w .visited) n;
       last = set (w .last) d n;
       records = w .records + pick leaf c 0;
       first = firstWith leaf (w .first) n;
@@ -92,8 +92,8 @@ ones bits (suc n) = ones bits n + bitOf bits n
 
 -- no more nodes, and no more records, than the bits set allow
 pub record Small (w : Walk) : Type 0 where
-  pub records : w .records ≤ 22 * ones (w .visited .bits) 6000
-  pub nodes : w .nodes ≤ 6000 + ones (w .visited .bits) 6000
+  pub records : w .records ≤ 22 * ones (w .visited) 6000
+  pub nodes : w .nodes ≤ 6000 + ones (w .visited) 6000
 
 -- a state that has room for a node with c records
 pub record Keepable (w : Walk) (n d c : ℕ) : Type 0 where
@@ -131,9 +131,9 @@ met v done = nodesOf done ++ (0 ∷ mapChain v)
 
 -- the state is that after the entries done
 pub record Agrees (v : View) (w : Walk) (done : List Entry) : Type 0 where
-  pub long : length (w .visited .bits) ≡ 750
+  pub long : length (w .visited) ≡ 750
   pub wide : length (w .last) ≡ 8
-  pub marks : Marks (w .visited .bits) (met v done)
+  pub marks : Marks (w .visited) (met v done)
   pub lasts : (d : ℕ) → d < 8 → lastAt w d ≡ lastOn d done
   pub first : w .first ≡ firstOn (pred (v .depth)) done
   pub records : w .records ≡ recordsOn v (pred (v .depth)) done
@@ -151,7 +151,7 @@ pub record Begins (img bits : List ℕ) (nodes : ℕ) : Type 0 where
 -- what they give: the first fault, or else the bits and the count of all nodes reached
 pub record Ends (img : List ℕ) (r : Walk) : Type 0 where
   pub verdict : fails (r .number) (r .place) ≡ walk (view img)
-  pub marks : r .number ≡ 0 → Marks (r .visited .bits) (reached (view img))
+  pub marks : r .number ≡ 0 → Marks (r .visited) (reached (view img))
   pub count : r .number ≡ 0 → r .nodes ≡ length (reached (view img))
 
 -- the better of the best record so far and record i, whose key is this one, of those not above k

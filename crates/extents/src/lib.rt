@@ -16,6 +16,7 @@ use hfs::map::map_chain;
 use hfs::map::map_tests;
 use image::part::no_part;
 use image::part::part_at;
+use image::visited::Visited;
 use key::is_lawful;
 use key::pack;
 use records::record_at;
@@ -62,7 +63,8 @@ pub fn check(image: &[u8]) -> Verdict
             place: tree.place,
         };
     }
-    let reached = tree.visited;
+    let bits = tree.visited;
+    let reached = Visited { bits };
     map_tests(image, reached, tree.nodes)
 }
 

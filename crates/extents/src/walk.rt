@@ -19,11 +19,10 @@ use image::bytes::be16;
 use image::bytes::be32;
 use image::bytes::bit_at;
 use image::visited::Visited;
-use image::visited::mark;
 
 // The nodes met, with the header and the map chain, and what the tests at the end ask of them.
 pub struct Walk {
-    pub visited: Visited,
+    pub visited: [u8; 750],
     // The last node met on each level, 0 for none.
     pub last: [u32; 8],
     // The leaves' records, and the first leaf.
@@ -69,7 +68,7 @@ fn is_fresh(w: Walk, total: u32, node: u32) -> bool
     if node >= total {
         return false;
     }
-    bit_at(&w.visited.bits, node as usize) == 0
+    bit_at(&w.visited, node as usize) == 0
 }
 
 fn last_on(w: Walk, level: u32) -> u32
@@ -164,10 +163,10 @@ fn kept_at(w: Walk, node: u32, level: u32, leaf: bool, c: u32) -> Walk
 {
     let first = first_with(leaf, w.first, node);
     let more = counted(leaf, c);
-    let before = w.visited;
-    let visited = mark(before, node);
+    let n = node as usize;
     let mut x = w;
-    x.visited = visited;
+    // In place: marking by a call would copy the bitmap twice for every node.
+    x.visited[n / 8] = x.visited[n / 8] | (128 >> (n % 8));
     x.last[level as usize] = node;
     x.records = x.records + more;
     x.first = first;
@@ -304,8 +303,9 @@ pub fn tree_tests(image: &[u8], visited: Visited, nodes: u32) -> Walk
     requires { ⌜ Begins (now image) (visited .bits) nodes ⌝ }
     ensures { λ r. ⌜ Ends (now (image .entry)) r ⌝ }
 {
+    let bits = visited.bits;
     let w = Walk {
-        visited,
+        visited: bits,
         last: [0; 8],
         records: 0,
         first: 0,

@@ -10,14 +10,23 @@ first-with-requires c κs = search needs
 counted-requires : tie.Need-counted-requires
 counted-requires c κs = search needs
 
-mark-requires : tie.Need-mark-requires
-mark-requires c κs = search needs
+element-copy-out-x : tie.Need-element-copy-out-x
+element-copy-out-x c = search needs
+
+cast-x : tie.Need-cast-x
+cast-x c = search needs
+
+shr-x : tie.Need-shr-x
+shr-x c = search needs
+
+element-write-x : tie.Need-element-write-x
+element-write-x c = search needs
 
 mul-x : tie.Need-mul-x
 mul-x c = search needs
 
-element-write-x : tie.Need-element-write-x
-element-write-x c = search needs
+element-write-x-2 : tie.Need-element-write-x-2
+element-write-x-2 c = search needs
 
 add-x : tie.Need-add-x
 add-x c = search needs
@@ -27,7 +36,7 @@ add-x-2 c = search needs
 
 returns : tie.Need-returns
 unfolding kept
-returns c = rw (c .before .before .before .first-with .ensures, c .before .before .counted .ensures .0, c .mark .ensures .asBytes (c .before .before .before .before .pre .inRange))
+returns c = rw (c .before .before .first-with .ensures, c .before .counted .ensures .0)
 
 pub kept-at-spec : {M : Type 1} → statement M
 kept-at-spec =
@@ -35,9 +44,12 @@ kept-at-spec =
     (tie.spec
     first-with-requires
     counted-requires
-    mark-requires
-    mul-x
+    element-copy-out-x
+    cast-x
+    shr-x
     element-write-x
+    mul-x
+    element-write-x-2
     add-x
     add-x-2
     returns)

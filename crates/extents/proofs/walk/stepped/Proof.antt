@@ -18,7 +18,7 @@ use borrow.Author.Needs.{needs}
 use Rattle.extents.proofs.walk.stepped.Statement.{statement}
 use Rattle.extents.proofs.walk.stepped.Tie as tie
 
-visited-long : (c : tie.Start) → length (c .args .w .visited .bits) ≡ 750
+visited-long : (c : tie.Start) → length (c .args .w .visited) ≡ 750
 visited-long c = search needs
 
 -- what the tests that passed say

@@ -22,18 +22,18 @@ long c = search needs
 
 -- the state that the walk begins with
 abbrev start : tie.Start → Walk
-start c = record { visited = c .args .visited; last = replicate 8 0; records = 0; first = 0; nodes = c .args .nodes; number = 0; place = 0 }
+start c = record { visited = c .args .visited .bits; last = replicate 8 0; records = 0; first = 0; nodes = c .args .nodes; number = 0; place = 0 }
 
 began : (c : tie.Start) → Agrees (view (c .args .image .now)) (start c) []
 began c = begun (view (c .args .image .now)) (start c) (long c) (c .pre .marks) (c .pre .count) refl refl refl refl
 
 -- what the visit of the root gives
-walked : (c : tie.After-visit) → let s = c .before .before .before .before .before in let v = view (s .args .image .now) in
+walked : (c : tie.After-visit) → let s = c .before .before .before .before .before .before in let v = view (s .args .image .now) in
     c .visit .result ≡ steps v (start s) (entries v (v .depth - 1) 0 0 0 none (v .root))
 unfolding viewOf
 walked c = c .visit .ensures .is ∙ rw (c .before .before .before .be16 .ensures .0, c .before .be32 .ensures, bound-none)
 
-deep : (c : tie.Else1) → view (c .before .before .before .args .image .now) .depth ≡ 0 → ⊥
+deep : (c : tie.Else1) → view (c .before .before .before .before .args .image .now) .depth ≡ 0 → ⊥
 unfolding viewOf
 deep c z = c .if1 .left (c .before .be16 .ensures .0 ∙ z)
 
@@ -48,7 +48,7 @@ stopped-at-requires c κs = search needs
 
 returns : tie.Need-returns
 unfolding viewOf
-returns c = let s = c .before .before .before .before .before in
+returns c = let s = c .before .before .before .before .before .before in
     let v = view (s .args .image .now) in
     let e = sym (c .before .before .before .be16 .ensures .0) ∙ c .before .before .if1 .taken in
     let a = began s in
@@ -63,11 +63,11 @@ sub-visit c = search needs
 visit-requires : tie.Need-visit-requires
 unfolding viewOf
 visit-requires c κs = let s = c .before .before .before in
-    record { few = s .before .pre .few; shallow = s .before .pre .shallow; levels = omega arith; clear = refl; small = record { records = omega arith; nodes = omega (arith, s .before .pre .small) } }
+    record { few = s .before .before .pre .few; shallow = s .before .before .pre .shallow; levels = omega arith; clear = refl; small = record { records = omega arith; nodes = omega (arith, s .before .before .pre .small) } }
 
 returns-2 : tie.Need-returns-2
 returns-2 c = let x = c .before .before in
-    let s = x .before .before .before .before .before in
+    let s = x .before .before .before .before .before .before in
     let v = view (s .args .image .now) in
     faulted (s .args .image .now) _ (c .if2 .taken)
     (found-fault v (s .pre .few) (s .pre .shallow) (start s) _ (began s) (deep (x .before .before)) (walked x) (c .if2 .taken))
@@ -80,7 +80,7 @@ stopped-at-requires-2 c κs = search needs
 
 returns-3 : tie.Need-returns-3
 returns-3 c = let x = c .before .before .before .before in
-    let s = x .before .before .before .before .before in
+    let s = x .before .before .before .before .before .before in
     let v = view (s .args .image .now) in
     let n = c .before .before .if2 .left in
     rw (c .stopped-at2 .ensures)
