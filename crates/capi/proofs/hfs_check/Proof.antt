@@ -1,0 +1,15 @@
+-- `hfs_check` meets its contract. Assumes nothing.
+use mathlib.Core.Path.{ap}
+use Rattle.capi.specs.Written.{verdictNumbers}
+use borrow.Author.Needs.{needs}
+use Rattle.capi.proofs.hfs_check.Statement.{statement}
+use Rattle.capi.proofs.hfs_check.Tie as tie
+
+check-requires : tie.Need-check-requires
+check-requires c κs = search needs
+
+returns : tie.Need-returns
+returns c = ap verdictNumbers (c .before .check .ensures .0)
+
+pub hfs-check-spec : {M : Type 1} → statement M
+hfs-check-spec = tie.close (tie.spec check-requires returns)

@@ -1,0 +1,133 @@
+// What C and Rust call. Every element that a call is lent to write is written, whatever the answer.
+ghost use mathlib.Core.Path.{_≡_};
+ghost use Rattle.btree.specs.Numbers.{lookupReply, salvageReply};
+ghost use Rattle.extents.specs.Reader.{verdict, asked, lookedUp, dataPart, foundPart, salvaged, seenPart};
+ghost use Rattle.capi.specs.Written.{verdictNumbers, replyNumbers, lookupNumbers, dataBytes};
+use btree::Answer;
+use btree::Lookup;
+use btree::Salvage;
+use extents::records::record_at;
+use image::bytes::byte_at;
+
+// Number and place.
+#[no_mangle]
+pub extern "C" fn hfs_check(image: &[u8], out: &mut [u32; 2])
+    ensures { λ _. ⌜ now (out .exit) ≡ verdictNumbers (verdict (now (image .entry))) ⌝ }
+{
+    let t = extents::check(image);
+    *out = [t.number, t.place];
+}
+
+fn lookup_reply(answer: Answer) -> [u32; 3]
+    ensures { λ r. ⌜ r ≡ replyNumbers (lookupReply answer) ⌝ }
+{
+    match answer {
+        Answer::Found(node, i) => [0, node, i],
+        Answer::Absent(node) => [12, node, 0],
+        Answer::Refused(number, place) => [number, place, 0],
+    }
+}
+
+fn lookup_numbers(found: Lookup) -> [u32; 12]
+    ensures { λ r. ⌜ r ≡ lookupNumbers found ⌝ }
+{
+    let answer = found.answer;
+    let reply = lookup_reply(answer);
+    let path = found.path;
+    let p = path.nodes;
+    [
+        reply[0],
+        reply[1],
+        reply[2],
+        path.len,
+        p[0],
+        p[1],
+        p[2],
+        p[3],
+        p[4],
+        p[5],
+        p[6],
+        p[7],
+    ]
+}
+
+// The 12 data bytes of a record.
+fn record_data(image: &[u8], node: u32, i: u32) -> [u8; 12]
+    ensures { λ r. ⌜ r ≡ dataBytes (now (image .entry)) (dataPart (now (image .entry)) node i) ⌝ }
+{
+    let at = record_at(image, node, i) + 8;
+    let mut data = [0; 12];
+    let mut k = 0;
+    while k < 12 {
+        data[k] = byte_at(image, at + k) as u8;
+        k += 1;
+    }
+    data
+}
+
+fn found_data(image: &[u8], answer: Answer) -> [u8; 12]
+    ensures { λ r. ⌜ r ≡ dataBytes (now (image .entry)) (foundPart (now (image .entry)) answer) ⌝ }
+{
+    match answer {
+        Answer::Found(node, i) => record_data(image, node, i),
+        Answer::Absent(_) => [0; 12],
+        Answer::Refused(_, _) => [0; 12],
+    }
+}
+
+// Number, node or place, record, path length, eight nodes of the path; and the record's data.
+#[no_mangle]
+pub extern "C" fn hfs_lookup(
+    image: &[u8],
+    file: u32,
+    fork: u8,
+    start: u16,
+    out: &mut [u32; 12],
+    data: &mut [u8; 12],
+)
+    ensures numbers { λ _. ⌜ now (out .exit) ≡ lookupNumbers (lookedUp (now (image .entry)) (asked file fork start)) ⌝ }
+    ensures bytes { λ _. ⌜ now («data» .exit) ≡ dataBytes (now (image .entry)) (foundPart (now (image .entry)) (lookedUp (now (image .entry)) (asked file fork start) .answer)) ⌝ }
+{
+    let found = extents::lookup(image, file, fork, start);
+    let answer = found.answer;
+    *out = lookup_numbers(found);
+    *data = found_data(image, answer);
+}
+
+fn salvage_reply(seen: Salvage) -> [u32; 3]
+    ensures { λ r. ⌜ r ≡ replyNumbers (salvageReply seen) ⌝ }
+{
+    match seen {
+        Salvage::Seen(node, i) => [13, node, i],
+        Salvage::NotSeen => [14, 0, 0],
+        Salvage::Refused(number, place) => [number, place, 0],
+    }
+}
+
+fn seen_data(image: &[u8], seen: Salvage) -> [u8; 12]
+    ensures { λ r. ⌜ r ≡ dataBytes (now (image .entry)) (seenPart (now (image .entry)) seen) ⌝ }
+{
+    match seen {
+        Salvage::Seen(node, i) => record_data(image, node, i),
+        Salvage::NotSeen => [0; 12],
+        Salvage::Refused(_, _) => [0; 12],
+    }
+}
+
+// Number, node or place, record; and the record's data.
+#[no_mangle]
+pub extern "C" fn hfs_salvage(
+    image: &[u8],
+    file: u32,
+    fork: u8,
+    start: u16,
+    out: &mut [u32; 3],
+    data: &mut [u8; 12],
+)
+    ensures numbers { λ _. ⌜ now (out .exit) ≡ replyNumbers (salvageReply (salvaged (now (image .entry)) (asked file fork start))) ⌝ }
+    ensures bytes { λ _. ⌜ now («data» .exit) ≡ dataBytes (now (image .entry)) (seenPart (now (image .entry)) (salvaged (now (image .entry)) (asked file fork start))) ⌝ }
+{
+    let seen = extents::salvage(image, file, fork, start);
+    *out = salvage_reply(seen);
+    *data = seen_data(image, seen);
+}

@@ -1,0 +1,41 @@
+//! What the reference says, in the words of the proved reader.
+
+use hfs_btree::{Answer, Lookup, Salvage, SalvageAnswer, Verdict};
+use images::Key;
+use std::ops::Range;
+
+pub fn check(image: &[u8]) -> Verdict {
+    let reference::Verdict { number, place } = reference::check(image);
+    Verdict { number, place }
+}
+
+pub fn lookup(image: &[u8], key: Key) -> Lookup {
+    let said = reference::lookup(image, key.file, key.fork, key.start);
+    let answer = match said.answer {
+        reference::Answer::Found { node, record } => Answer::Found { node, record },
+        reference::Answer::Absent { node } => Answer::Absent { node },
+        reference::Answer::Refused { number, place } => Answer::Refused { number, place },
+    };
+    let path_len = said.path_len as u32;
+    Lookup { answer, path: said.path, path_len, data: data(image, said.data) }
+}
+
+pub fn salvage(image: &[u8], key: Key) -> Salvage {
+    let said = reference::salvage(image, key.file, key.fork, key.start);
+    let answer = match said.answer {
+        reference::SalvageAnswer::Seen { node, record } => SalvageAnswer::Seen { node, record },
+        reference::SalvageAnswer::NotSeen => SalvageAnswer::NotSeen,
+        reference::SalvageAnswer::Refused { number, place } => {
+            SalvageAnswer::Refused { number, place }
+        }
+    };
+    Salvage { answer, data: data(image, said.data) }
+}
+
+/// The proved reader copies the data where the reference says where they are.
+fn data(image: &[u8], range: Option<Range<usize>>) -> [u8; 12] {
+    match range {
+        Some(range) => image[range].try_into().expect("data are 12 bytes"),
+        None => [0; 12],
+    }
+}

@@ -1,0 +1,52 @@
+//! The calls into the archive; `include/hfs_btree.h` has the same for C.
+
+extern "C" {
+    fn hfs_check(image: *const u8, len: usize, out: *mut [u32; 2]);
+    fn hfs_lookup(
+        image: *const u8,
+        len: usize,
+        file: u32,
+        fork: u8,
+        start: u16,
+        out: *mut [u32; 12],
+        data: *mut [u8; 12],
+    );
+    fn hfs_salvage(
+        image: *const u8,
+        len: usize,
+        file: u32,
+        fork: u8,
+        start: u16,
+        out: *mut [u32; 3],
+        data: *mut [u8; 12],
+    );
+}
+
+// What a call does not write would show as a number that no answer has.
+const UNWRITTEN: u32 = 0xDEAD_BEEF;
+const UNWRITTEN_BYTE: u8 = 0xA5;
+
+pub fn check(image: &[u8]) -> [u32; 2] {
+    let mut out = [UNWRITTEN; 2];
+    // SAFETY: the image is a live slice and only read, and `out` is an array of its own.
+    unsafe { hfs_check(image.as_ptr(), image.len(), &mut out) };
+    out
+}
+
+pub fn lookup(image: &[u8], file: u32, fork: u8, start: u16) -> ([u32; 12], [u8; 12]) {
+    let mut out = [UNWRITTEN; 12];
+    let mut data = [UNWRITTEN_BYTE; 12];
+    let (bytes, len) = (image.as_ptr(), image.len());
+    // SAFETY: the image is a live slice and only read, and `out` and `data` are arrays of their own.
+    unsafe { hfs_lookup(bytes, len, file, fork, start, &mut out, &mut data) };
+    (out, data)
+}
+
+pub fn salvage(image: &[u8], file: u32, fork: u8, start: u16) -> ([u32; 3], [u8; 12]) {
+    let mut out = [UNWRITTEN; 3];
+    let mut data = [UNWRITTEN_BYTE; 12];
+    let (bytes, len) = (image.as_ptr(), image.len());
+    // SAFETY: the image is a live slice and only read, and `out` and `data` are arrays of their own.
+    unsafe { hfs_salvage(bytes, len, file, fork, start, &mut out, &mut data) };
+    (out, data)
+}

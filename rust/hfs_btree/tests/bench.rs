@@ -1,0 +1,46 @@
+//! The smallest images of the paper's bench, with the paper's answers.
+
+use hfs_btree::{check, lookup, salvage, Answer, Lookup, Salvage, SalvageAnswer, Verdict};
+use images::bench::{e1, e1_with_map_byte, l1, l1_with_back_link_1};
+
+const NO_DATA: [u8; 12] = [0; 12];
+
+fn answered(answer: Answer) -> Lookup {
+    Lookup { answer, path: [0; 8], path_len: 0, data: NO_DATA }
+}
+
+#[test]
+fn verdicts() {
+    assert_eq!(check(&[]), Verdict { number: 1, place: 0 });
+    assert_eq!(check(&[0; 512]), Verdict { number: 2, place: 0 });
+    assert_eq!(check(&e1()), Verdict { number: 0, place: 0 });
+    assert_eq!(check(&e1_with_map_byte(0xC0)), Verdict { number: 9, place: 1 });
+    assert_eq!(check(&l1_with_back_link_1()), Verdict { number: 7, place: 1 });
+}
+
+#[test]
+fn lookups() {
+    let path = [1, 0, 0, 0, 0, 0, 0, 0];
+    let data = [0x00, 0x64, 0x00, 0x03, 0, 0, 0, 0, 0, 0, 0, 0];
+    let found =
+        Lookup { path, path_len: 1, data, ..answered(Answer::Found { node: 1, record: 0 }) };
+    assert_eq!(lookup(&l1(), 16, 0x00, 5), found);
+    let absent = Lookup { path, path_len: 1, ..answered(Answer::Absent { node: 1 }) };
+    assert_eq!(lookup(&l1(), 16, 0xFF, 5), absent);
+    assert_eq!(lookup(&e1(), 16, 0xFF, 5), answered(Answer::Absent { node: 0 }));
+    let refused = answered(Answer::Refused { number: 11, place: 0 });
+    assert_eq!(lookup(&l1(), 16, 0x01, 5), refused);
+    let refused = answered(Answer::Refused { number: 7, place: 1 });
+    assert_eq!(lookup(&l1_with_back_link_1(), 16, 0x00, 5), refused);
+}
+
+#[test]
+fn salvages() {
+    let data = [0x00, 0x64, 0x00, 0x03, 0, 0, 0, 0, 0, 0, 0, 0];
+    let seen = Salvage { answer: SalvageAnswer::Seen { node: 1, record: 0 }, data };
+    assert_eq!(salvage(&l1_with_back_link_1(), 16, 0x00, 5), seen);
+    let not_seen = Salvage { answer: SalvageAnswer::NotSeen, data: NO_DATA };
+    assert_eq!(salvage(&l1(), 16, 0xFF, 5), not_seen);
+    let answer = SalvageAnswer::Refused { number: 11, place: 0 };
+    assert_eq!(salvage(&l1(), 16, 0x01, 5), Salvage { answer, data: NO_DATA });
+}

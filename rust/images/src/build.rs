@@ -1,0 +1,147 @@
+//! Turns a plan into a sound image, with an account of what stands where.
+
+use crate::garbage::old_node;
+use crate::key::Key;
+use crate::node::*;
+use crate::numbering::{number_nodes, Numbering};
+use crate::plan::Plan;
+use crate::rng::Rng;
+use crate::shape::{add_pointers, make_records, share_nodes, share_records};
+use std::ops::Range;
+
+/// A sound image and what it holds.
+pub struct Built {
+    pub image: Vec<u8>,
+    /// Map nodes in the order of the chain.
+    pub map_chain: Vec<u32>,
+    /// Levels of the tree, root first.
+    pub levels: Vec<Level>,
+    /// Leaf records in leaf order.
+    pub records: Vec<Record>,
+    /// Free nodes, ascending.
+    pub free: Vec<u32>,
+}
+
+/// One level of the tree; nodes are told apart by their position from left to right.
+pub struct Level {
+    pub numbers: Vec<u32>,
+    /// Of each node: its children on the level below, or its records if it is a leaf.
+    pub groups: Vec<Range<usize>>,
+    /// Of each node: the key of the pointer record that leads to it.
+    pub pointers: Vec<Key>,
+}
+
+impl Built {
+    pub fn total(&self) -> u32 {
+        (self.image.len() / NODE_SIZE) as u32
+    }
+
+    pub fn depth(&self) -> usize {
+        self.levels.len()
+    }
+}
+
+/// Builds the image of a plan; the same plan always gives the same bytes.
+pub fn build(plan: &Plan) -> Built {
+    assert!(plan.total_nodes() <= MOST_NODES, "too many nodes planned");
+    let mut rng = Rng::new(plan.seed);
+    let mut groups = share_nodes(&mut rng, &plan.level_sizes);
+    let record_groups = share_records(&mut rng, plan);
+    let record_count = record_groups.last().map_or(0, |group| group.end);
+    if !plan.level_sizes.is_empty() {
+        groups.push(record_groups);
+    }
+    let records = make_records(&mut rng, record_count);
+    let shape = add_pointers(&mut rng, plan, groups, &records);
+    let numbering = number_nodes(&mut rng, plan);
+    let Numbering { map_chain, levels, free } = numbering;
+    let levels = levels
+        .into_iter()
+        .zip(shape)
+        .map(|(numbers, level)| Level { numbers, groups: level.groups, pointers: level.pointers })
+        .collect();
+    let mut built =
+        Built { image: vec![0; plan.total_nodes() * NODE_SIZE], map_chain, levels, records, free };
+    write_image(&mut rng, plan, &mut built);
+    built
+}
+
+fn write_image(rng: &mut Rng, plan: &Plan, built: &mut Built) {
+    write_header_node(rng, plan, built);
+    for (index, &number) in built.map_chain.iter().enumerate() {
+        let mut node = [0; NODE_SIZE];
+        let next = built.map_chain.get(index + 1).copied().unwrap_or(0);
+        write_map(&mut node, next);
+        put_node(&mut built.image, number, &node);
+    }
+    for level in 0..built.levels.len() {
+        for position in 0..built.levels[level].numbers.len() {
+            let node = tree_node(blank(rng, plan), built, level, position);
+            put_node(&mut built.image, built.levels[level].numbers[position], &node);
+        }
+    }
+    if plan.old_garbage {
+        for &number in &built.free {
+            let node = old_node(rng, &built.records);
+            put_node(&mut built.image, number, &node);
+        }
+    }
+    write_map_bits(built);
+}
+
+fn write_header_node(rng: &mut Rng, plan: &Plan, built: &mut Built) {
+    let ends = |level: &Level| Some((*level.numbers.first()?, *level.numbers.last()?));
+    let (first_leaf, last_leaf) = built.levels.last().and_then(ends).unwrap_or((0, 0));
+    let fields = HeaderFields {
+        forward: built.map_chain.first().copied().unwrap_or(0),
+        depth: built.levels.len() as u16,
+        root: built.levels.first().map_or(0, |level| level.numbers[0]),
+        leaf_records: built.records.len() as u32,
+        first_leaf,
+        last_leaf,
+        total: built.total(),
+        free: built.free.len() as u32,
+    };
+    let mut node = blank(rng, plan);
+    // The map record is no place for noise: every one of its bits is judged.
+    node[HEADER_MAP_AT..HEADER_MAP_AT + HEADER_BITS / 8].fill(0);
+    write_header(&mut node, &fields);
+    put_node(&mut built.image, 0, &node);
+}
+
+fn tree_node(mut node: Node, built: &Built, level: usize, position: usize) -> Node {
+    let this = &built.levels[level];
+    let descriptor = Descriptor {
+        forward: this.numbers.get(position + 1).copied().unwrap_or(0),
+        back: if position == 0 { 0 } else { this.numbers[position - 1] },
+        level: level as u8 + 1,
+    };
+    let group = this.groups[position].clone();
+    match built.levels.get(level + 1) {
+        None => write_leaf(&mut node, descriptor, &built.records[group]),
+        Some(below) => {
+            let pointers: Vec<Pointer> = group
+                .map(|child| Pointer { key: below.pointers[child], child: below.numbers[child] })
+                .collect();
+            write_index(&mut node, descriptor, &pointers);
+        }
+    }
+    node
+}
+
+fn write_map_bits(built: &mut Built) {
+    let tree = built.levels.iter().flat_map(|level| &level.numbers);
+    let used = built.map_chain.iter().chain(tree).chain([&0]);
+    for &number in used {
+        let at = map_byte_at(&built.map_chain, number as usize);
+        built.image[at] |= 0x80 >> (number % 8);
+    }
+}
+
+fn blank(rng: &mut Rng, plan: &Plan) -> Node {
+    let mut node = [0; NODE_SIZE];
+    if plan.noise {
+        rng.fill(&mut node);
+    }
+    node
+}

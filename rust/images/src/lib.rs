@@ -1,0 +1,22 @@
+//! Builds images of extents overflow files: sound ones, the paper's bench images and spoiled ones.
+//!
+//! Nothing here reads an image back; what a reader should say follows from how it was built.
+
+pub mod bench;
+mod build;
+pub mod by_hand;
+mod garbage;
+pub mod key;
+pub mod node;
+mod numbering;
+pub mod plan;
+pub mod rng;
+pub mod samples;
+mod shape;
+pub mod spoil;
+
+pub use build::{build, Built, Level};
+pub use key::Key;
+pub use node::{Pointer, Record};
+pub use plan::Plan;
+pub use rng::Rng;

@@ -1,0 +1,113 @@
+//! Which node holds what: how records and nodes are shared out, and the pointer keys over them.
+
+use crate::key::{Key, LAWFUL_KEYS};
+use crate::node::{Record, MOST_INDEX_RECORDS};
+use crate::plan::Plan;
+use crate::rng::Rng;
+use std::ops::Range;
+
+/// One level of a tree before it has node numbers.
+pub struct ShapeLevel {
+    /// Of each node: its children on the level below, or its records if it is a leaf.
+    pub groups: Vec<Range<usize>>,
+    /// Of each node: the key of the pointer record that leads to it.
+    pub pointers: Vec<Key>,
+}
+
+/// Shares the children out over the parents, at least one and at most 35 to each.
+pub fn share_nodes(rng: &mut Rng, sizes: &[usize]) -> Vec<Vec<Range<usize>>> {
+    sizes
+        .windows(2)
+        .map(|pair| {
+            let counts = share(rng, pair[1], pair[0], MOST_INDEX_RECORDS);
+            consecutive(&counts)
+        })
+        .collect()
+}
+
+/// Shares records out over the leaves as the plan wishes.
+pub fn share_records(rng: &mut Rng, plan: &Plan) -> Vec<Range<usize>> {
+    let leaves = plan.level_sizes.last().copied().unwrap_or(0);
+    let (least, most) = plan.records_per_leaf.clone().into_inner();
+    let counts: Vec<usize> =
+        (0..leaves).map(|_| rng.between(least as u64, most as u64) as usize).collect();
+    consecutive(&counts)
+}
+
+/// Records with strictly ascending keys, some close together and some far apart.
+pub fn make_records(rng: &mut Rng, count: usize) -> Vec<Record> {
+    let widest_gap = LAWFUL_KEYS / (count as u64 + 1);
+    let gaps = [1, 1, 3, 40, 70_000, 1_000_000, widest_gap];
+    let mut rank = rng.between(0, 2);
+    (0..count)
+        .map(|_| {
+            let key = Key::from_rank(rank);
+            let gap = gaps[rng.index(gaps.len())].min(widest_gap);
+            rank += rng.between(1, gap);
+            let mut data = [0; 12];
+            rng.fill(&mut data);
+            Record { key, data }
+        })
+        .collect()
+}
+
+/// The pointer keys over every level, worked out from the leaves up.
+pub fn add_pointers(
+    rng: &mut Rng,
+    plan: &Plan,
+    groups: Vec<Vec<Range<usize>>>,
+    records: &[Record],
+) -> Vec<ShapeLevel> {
+    let mut levels: Vec<ShapeLevel> = Vec::new();
+    // Of each node of the level below: its first record in leaf order and its own first key.
+    let mut below: Vec<(usize, Key)> = records.iter().map(|r| r.key).enumerate().collect();
+    for groups in groups.into_iter().rev() {
+        let firsts: Vec<(usize, Key)> = groups.iter().map(|group| below[group.start]).collect();
+        let pointers: Vec<Key> = firsts
+            .iter()
+            .map(|&(first_record, first_key)| {
+                pointer_key(rng, plan.loose_pointers, &records[..first_record], first_key)
+            })
+            .collect();
+        below = firsts.iter().map(|first| first.0).zip(pointers.iter().copied()).collect();
+        levels.push(ShapeLevel { groups, pointers });
+    }
+    levels.reverse();
+    levels
+}
+
+/// A key above all records before the child and not above the child's first key.
+fn pointer_key(rng: &mut Rng, loose: bool, before: &[Record], first_key: Key) -> Key {
+    if !loose {
+        return first_key;
+    }
+    let lowest = before.last().map_or(0, |record| record.key.rank() + 1);
+    Key::from_rank(rng.between(lowest, first_key.rank()))
+}
+
+fn share(rng: &mut Rng, items: usize, parts: usize, most: usize) -> Vec<usize> {
+    let mut left = items;
+    (0..parts)
+        .rev()
+        .map(|parts_after| {
+            // What the later parts cannot take has to go here; what they need must be left.
+            let least_here = left.saturating_sub(most * parts_after).max(1);
+            let most_here = (left - parts_after).min(most);
+            let taken = rng.between(least_here as u64, most_here as u64) as usize;
+            left -= taken;
+            taken
+        })
+        .collect()
+}
+
+fn consecutive(counts: &[usize]) -> Vec<Range<usize>> {
+    let mut start = 0;
+    counts
+        .iter()
+        .map(|&count| {
+            let group = start..start + count;
+            start = group.end;
+            group
+        })
+        .collect()
+}

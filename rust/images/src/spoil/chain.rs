@@ -1,0 +1,72 @@
+//! Number 3: faults of the map chain.
+
+use super::{Moment, Patch, Spoiling, Stage, Step};
+use crate::build::Built;
+use crate::node::{HEADER_BITS, MAP_NODE_BITS, NODE_SIZE};
+
+pub fn spoilings(built: &Built) -> Vec<Spoiling> {
+    let mut found = Vec::from_iter(header_to_tree(built));
+    // Turn n of the chain is the link of its n-th node, the header being node 0 of the chain.
+    found.extend(links(built, 0, 0));
+    for (index, &number) in built.map_chain.iter().enumerate() {
+        let turn = index as u32;
+        found.extend(fields(number, turn));
+        found.extend(links(built, number, turn + 1));
+        found.push(ring(built, number, turn + 1));
+    }
+    found
+}
+
+/// The linked node is at fault if it is no map node.
+fn header_to_tree(built: &Built) -> Option<Spoiling> {
+    let root = built.levels.first()?.numbers[0];
+    let moment = Moment::at(Stage::Chain, 0, Step::Link);
+    let patch = Patch::long(0, root);
+    Some(spoiling("map_link_to_root", 0, root, moment, patch))
+}
+
+/// A node with a link out of range, or with none where more bits are needed, is itself at fault.
+fn links(built: &Built, number: u32, turn: u32) -> Vec<Spoiling> {
+    let at = number as usize * NODE_SIZE;
+    let moment = Moment::at(Stage::Chain, turn, Step::Link);
+    let total = built.total();
+    let mut found = vec![
+        spoiling("map_link_to_total", number, number, moment, Patch::long(at, total)),
+        spoiling("map_link_far_out", number, number, moment, Patch::long(at, u32::MAX)),
+    ];
+    if HEADER_BITS + turn as usize * MAP_NODE_BITS < total as usize {
+        found.push(spoiling("map_chain_cut", number, number, moment, Patch::long(at, 0)));
+    }
+    found
+}
+
+/// A link to a node already in the chain is the fault of the node that has it.
+fn ring(built: &Built, number: u32, turn: u32) -> Spoiling {
+    let at = number as usize * NODE_SIZE;
+    let moment = Moment::at(Stage::Chain, turn, Step::Link);
+    let first = built.map_chain[0];
+    let what = if first == number { "map_link_to_itself" } else { "map_link_to_first_map_node" };
+    spoiling(what, number, number, moment, Patch::long(at, first))
+}
+
+fn fields(number: u32, turn: u32) -> Vec<Spoiling> {
+    let at = number as usize * NODE_SIZE;
+    let moment = Moment::at(Stage::Chain, turn, Step::LinkedNode);
+    let faults = [
+        ("map_back_link_1", Patch::long(at + 4, 1)),
+        ("map_kind_header", Patch::byte(at + 8, 0x01)),
+        ("map_kind_leaf", Patch::byte(at + 8, 0xFF)),
+        ("map_level_1", Patch::byte(at + 9, 1)),
+        ("map_count_0", Patch::word(at + 10, 0)),
+        ("map_count_2", Patch::word(at + 10, 2)),
+        ("map_reserved_low_byte", Patch::byte(at + 13, 1)),
+        ("map_reserved_high_byte", Patch::byte(at + 12, 1)),
+        ("map_free_offset", Patch::word(at + 508, 0x01FA)),
+        ("map_first_offset", Patch::word(at + 510, 0x000F)),
+    ];
+    faults.map(|(what, patch)| spoiling(what, number, number, moment, patch)).into()
+}
+
+fn spoiling(what: &str, edited: u32, place: u32, moment: Moment, patch: Patch) -> Spoiling {
+    Spoiling { what: what.to_string(), edited, number: 3, place, moment, patches: vec![patch] }
+}

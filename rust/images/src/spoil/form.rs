@@ -1,0 +1,107 @@
+//! Number 5: faults in the form of a tree node.
+
+use super::family::{visit_order, Member};
+use super::{Moment, Patch, Spoiling, Stage, Step};
+use crate::build::Built;
+use crate::node::*;
+
+pub fn spoilings(built: &Built) -> Vec<Spoiling> {
+    let mut found = wrong_depths(built);
+    for (visit, &member) in visit_order(built).iter().enumerate() {
+        let faults = descriptor_faults(built, member)
+            .into_iter()
+            .chain(offset_faults(built, member))
+            .chain(key_faults(built, member));
+        let number = member.number(built);
+        found.extend(faults.map(|(what, patch)| spoiling(what, number, number, visit, patch)));
+    }
+    found
+}
+
+/// With a wrong depth the leaves are looked for on the wrong level, first at the left end.
+fn wrong_depths(built: &Built) -> Vec<Spoiling> {
+    let depth = built.depth();
+    let mut found = Vec::new();
+    if (1..8).contains(&depth) {
+        let leaf = built.levels[depth - 1].numbers[0];
+        let patch = Patch::word(14, depth as u16 + 1);
+        let what = "header_depth_one_over".to_string();
+        found.push(spoiling(what, 0, leaf, depth - 1, patch));
+    }
+    if depth > 1 {
+        let index = built.levels[depth - 2].numbers[0];
+        let patch = Patch::word(14, depth as u16 - 1);
+        let what = "header_depth_one_short".to_string();
+        found.push(spoiling(what, 0, index, depth - 2, patch));
+    }
+    found
+}
+
+fn descriptor_faults(built: &Built, member: Member) -> Vec<(String, Patch)> {
+    let at = member.at(built);
+    let level = member.level as u8 + 1;
+    let (other_kind, most) = if member.is_leaf(built) {
+        (INDEX_KIND, MOST_LEAF_RECORDS)
+    } else {
+        (LEAF_KIND, MOST_INDEX_RECORDS)
+    };
+    let faults = [
+        ("kind_other", Patch::byte(at + 8, other_kind)),
+        ("kind_header", Patch::byte(at + 8, HEADER_KIND)),
+        ("kind_map", Patch::byte(at + 8, MAP_KIND)),
+        ("kind_unknown", Patch::byte(at + 8, 0xFE)),
+        ("level_one_over", Patch::byte(at + 9, level + 1)),
+        ("level_one_short", Patch::byte(at + 9, level - 1)),
+        ("count_0", Patch::word(at + 10, 0)),
+        ("count_too_many", Patch::word(at + 10, most as u16 + 1)),
+        ("count_far_too_many", Patch::word(at + 10, u16::MAX)),
+        ("reserved_low_byte", Patch::byte(at + 13, 1)),
+        ("reserved_high_byte", Patch::byte(at + 12, 1)),
+    ];
+    faults.map(|(what, patch)| (what.to_string(), patch)).into()
+}
+
+/// One fault in every offset word, that of the free space included.
+fn offset_faults(built: &Built, member: Member) -> Vec<(String, Patch)> {
+    let size = record_size(built, member);
+    (0..=member.record_count(built))
+        .map(|record| {
+            let at = member.at(built) + NODE_SIZE - 2 - 2 * record;
+            let wrong = RECORDS_AT + record * size + 1;
+            (format!("offset_{record}"), Patch::word(at, wrong as u16))
+        })
+        .collect()
+}
+
+/// Faults in the length and the fork byte of the first and the last key.
+fn key_faults(built: &Built, member: Member) -> Vec<(String, Patch)> {
+    let last = member.record_count(built) - 1;
+    let mut found = Vec::new();
+    for record in if last == 0 { vec![0] } else { vec![0, last] } {
+        let at = member.at(built) + RECORDS_AT + record * record_size(built, member);
+        found.push((format!("key_length_6_of_{record}"), Patch::byte(at, 6)));
+        found.push((format!("key_length_8_of_{record}"), Patch::byte(at, 8)));
+        found.push((format!("fork_01_of_{record}"), Patch::byte(at + 1, 0x01)));
+        found.push((format!("fork_fe_of_{record}"), Patch::byte(at + 1, 0xFE)));
+    }
+    found
+}
+
+pub fn record_size(built: &Built, member: Member) -> usize {
+    if member.is_leaf(built) {
+        LEAF_RECORD_SIZE
+    } else {
+        INDEX_RECORD_SIZE
+    }
+}
+
+fn spoiling(what: String, edited: u32, place: u32, visit: usize, patch: Patch) -> Spoiling {
+    Spoiling {
+        what,
+        edited,
+        number: 5,
+        place,
+        moment: Moment::at(Stage::Tree, visit as u32, Step::Form),
+        patches: vec![patch],
+    }
+}

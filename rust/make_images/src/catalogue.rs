@@ -1,0 +1,79 @@
+//! Which images are written, and under which names.
+
+use images::bench::*;
+use images::by_hand::three_levels_by_hand;
+use images::samples;
+use images::spoil::{spoilings, Spoiling};
+use images::Built;
+use std::collections::BTreeMap;
+
+/// An image with the name of its file.
+pub struct Sample {
+    pub name: String,
+    pub image: Vec<u8>,
+}
+
+pub fn catalogue() -> Vec<Sample> {
+    let mut all = bench_samples();
+    all.push(sample("three_levels_by_hand", three_levels_by_hand()));
+    all.extend(with_spoiled("two_level", samples::two_level()));
+    all.extend(with_spoiled("three_level", samples::three_level()));
+    all.push(sample("longest_listed", samples::longest_listed().image));
+    all.push(sample("three_level_large", samples::three_level_large().image));
+    all.push(sample("largest", samples::largest().image));
+    all
+}
+
+fn bench_samples() -> Vec<Sample> {
+    vec![
+        sample("length_0", Vec::new()),
+        sample("length_511", vec![0; 511]),
+        sample("zeros_512", vec![0; 512]),
+        sample("length_3072512", vec![0; 3_072_512]),
+        sample("e1", e1()),
+        sample("e1_map_byte_00", e1_with_map_byte(0x00)),
+        sample("e1_map_byte_c0", e1_with_map_byte(0xC0)),
+        sample("e1_free_1", e1_with_free_1()),
+        sample("l1", l1()),
+        sample("l1_back_link_1", l1_with_back_link_1()),
+        sample("leaf_22_records", leaf_with(22)),
+        sample("leaf_23_records", leaf_with(23)),
+        sample("index_35_records", index_with(35)),
+        sample("index_36_records", index_with(36)),
+        sample("nodes_2048_no_map_node", empty_tree(2_048)),
+        sample("nodes_2049_no_map_node", empty_tree(2_049)),
+        sample("map_node_linked_to_itself", map_node_linked_to_itself()),
+    ]
+}
+
+/// The sound image, and two spoiled versions for each thing that can be wrong with it.
+fn with_spoiled(name: &str, built: Built) -> Vec<Sample> {
+    // The first of a kind lies near the root and the last one in a leaf, so both are kept.
+    let mut kinds: BTreeMap<(u32, String), Vec<Spoiling>> = BTreeMap::new();
+    for spoiling in spoilings(&built) {
+        let kind = (spoiling.number, kind_of(&spoiling.what));
+        let kept = kinds.entry(kind).or_default();
+        kept.truncate(1);
+        kept.push(spoiling);
+    }
+    let mut all = vec![sample(name, built.image.clone())];
+    for spoiling in kinds.values().flatten() {
+        let mut image = built.image.clone();
+        spoiling.apply(&mut image);
+        // A long one of zeros is among the bench images already.
+        if image.len() <= 2 * built.image.len() {
+            all.push(sample(&format!("{name}_{}", spoiling.name()), image));
+        }
+    }
+    all
+}
+
+/// What is wrong without the numbers in it, so that faults of different records are of one kind.
+fn kind_of(what: &str) -> String {
+    what.chars().filter(|c| !c.is_ascii_digit()).collect()
+}
+
+fn sample(name: &str, image: Vec<u8>) -> Sample {
+    let name = name.to_string();
+    Sample { name, image }
+}

@@ -1,0 +1,42 @@
+//! Writes sample images to a folder, each with what the reference says of it.
+
+mod catalogue;
+
+use catalogue::{catalogue, Sample};
+use reference::{check, listing};
+use std::path::{Path, PathBuf};
+use std::process::ExitCode;
+use std::{env, fs, io};
+
+fn main() -> ExitCode {
+    let mut arguments = env::args_os().skip(1);
+    let (Some(folder), None) = (arguments.next(), arguments.next()) else {
+        eprintln!("usage: make_images OUTDIR");
+        return ExitCode::from(2);
+    };
+    match write_all(&PathBuf::from(folder)) {
+        Ok(count) => {
+            println!("{count} images");
+            ExitCode::SUCCESS
+        }
+        Err(error) => {
+            eprintln!("make_images: {error}");
+            ExitCode::FAILURE
+        }
+    }
+}
+
+/// Writes every sample and one table of verdicts, as listings of long images say only `too long`.
+fn write_all(folder: &Path) -> io::Result<usize> {
+    fs::create_dir_all(folder)?;
+    let samples = catalogue();
+    let mut verdicts = String::new();
+    for Sample { name, image } in &samples {
+        fs::write(folder.join(format!("{name}.img")), image)?;
+        fs::write(folder.join(format!("{name}.expected")), listing(image))?;
+        let verdict = check(image);
+        verdicts += &format!("{name} {} {}\n", verdict.number, verdict.place);
+    }
+    fs::write(folder.join("verdicts.txt"), verdicts)?;
+    Ok(samples.len())
+}

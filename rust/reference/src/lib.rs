@@ -1,0 +1,25 @@
+//! A plain reader of an HFS extents overflow file held in one byte image.
+//!
+//! It answers whether the image is sound, what stands under a key, and what can be salvaged.
+
+mod check;
+mod header;
+mod key;
+mod leaves;
+mod listing;
+mod lookup;
+mod map;
+mod node;
+mod node_set;
+mod record;
+mod salvage;
+mod tree;
+mod verdict;
+
+pub use check::check;
+pub use key::Key;
+pub use leaves::{leaf_records, LeafRecord};
+pub use listing::listing;
+pub use lookup::{lookup, Answer, Lookup};
+pub use salvage::{salvage, Salvage, SalvageAnswer};
+pub use verdict::Verdict;

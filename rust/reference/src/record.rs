@@ -1,0 +1,99 @@
+//! How leaf and index nodes lay out their keyed records.
+
+use crate::key::{is_lawful_fork, Key, KEY_LENGTH, KEY_SIZE};
+use crate::node::{kind, level as level_byte, record_count, reserved, Node, RECORDS_AT};
+use crate::verdict::{require, Verdict, KEY_ORDER, NODE_FORM};
+use std::ops::Range;
+
+/// Nodes with keyed records: their kind, the size of a record and the most records they hold.
+pub struct Keyed<const KIND: u8, const SIZE: usize, const MOST: usize>;
+
+pub type Leaf = Keyed<0xFF, 20, 22>;
+pub type Index = Keyed<0x00, 12, 35>;
+
+pub type LeafBytes = [u8; 20];
+pub type IndexBytes = [u8; 12];
+
+pub const LEAF_DATA_SIZE: usize = 12;
+
+impl<const KIND: u8, const SIZE: usize, const MOST: usize> Keyed<KIND, SIZE, MOST> {
+    /// The records side by side; no more than a node can hold, whatever its count says.
+    pub fn records(node: &Node) -> &[[u8; SIZE]] {
+        let (records, _) = node[RECORDS_AT..].as_chunks();
+        &records[..record_count(node).min(MOST)]
+    }
+
+    /// Tests 5 and 6 of a node that belongs on the given level and within the given bounds.
+    pub fn test(
+        node: &Node,
+        number: u32,
+        level: usize,
+        bounds: &Range<u64>,
+    ) -> Result<(), Verdict> {
+        let right_level = usize::from(level_byte(node)) == level;
+        require(right_level && Self::is_well_formed(node), NODE_FORM, number)?;
+        require(Self::keys_ascend_within(node, bounds), KEY_ORDER, number)
+    }
+
+    /// Test 5 without the level, which a salvaged node need not keep.
+    pub fn is_well_formed(node: &Node) -> bool {
+        kind(node) == KIND
+            && reserved(node) == 0
+            && (1..=MOST).contains(&record_count(node))
+            && Self::has_right_offsets(node)
+            && Self::records(node).iter().all(has_lawful_key)
+    }
+
+    /// Test 6: keys strictly ascend, from `bounds.start` on and below `bounds.end`.
+    pub fn keys_ascend_within(node: &Node, bounds: &Range<u64>) -> bool {
+        let mut lowest = bounds.start;
+        Self::records(node).iter().all(|record| {
+            let key = packed_key(record);
+            let fits = lowest <= key && key < bounds.end;
+            lowest = key + 1;
+            fits
+        })
+    }
+
+    /// One offset more than records, as words from the end of the node backwards.
+    fn has_right_offsets(node: &Node) -> bool {
+        let words = node.rchunks_exact(2).map(|word| u16::from_be_bytes([word[0], word[1]]));
+        let right = (RECORDS_AT..).step_by(SIZE);
+        words
+            .zip(right)
+            .take(record_count(node) + 1)
+            .all(|(word, right)| usize::from(word) == right)
+    }
+}
+
+pub fn key<const SIZE: usize>(record: &[u8; SIZE]) -> Key {
+    Key {
+        file: u32::from_be_bytes([record[2], record[3], record[4], record[5]]),
+        fork: record[1],
+        start: u16::from_be_bytes([record[6], record[7]]),
+    }
+}
+
+pub fn packed_key<const SIZE: usize>(record: &[u8; SIZE]) -> u64 {
+    key(record).packed()
+}
+
+/// The child that an index record points to.
+pub fn child(record: &IndexBytes) -> u32 {
+    u32::from_be_bytes([record[8], record[9], record[10], record[11]])
+}
+
+/// The record of a leaf with ascending keys that has the asked key.
+pub fn find_in_leaf(node: &Node, asked: u64) -> Option<usize> {
+    Leaf::records(node).binary_search_by_key(&asked, packed_key).ok()
+}
+
+/// Where the data of a leaf record stand within the node.
+pub fn leaf_data(record: usize) -> Range<usize> {
+    let start = RECORDS_AT + record * size_of::<LeafBytes>() + KEY_SIZE;
+    start..start + LEAF_DATA_SIZE
+}
+
+fn has_lawful_key<const SIZE: usize>(record: &[u8; SIZE]) -> bool {
+    record[0] == KEY_LENGTH && is_lawful_fork(record[1])
+}

@@ -1,0 +1,60 @@
+//! What can be salvaged under a key from an image of any state.
+
+use crate::key::{is_lawful_fork, Key};
+use crate::node::{range_in_image, whole_nodes, Node, MOST_NODES, NODE_SIZE};
+use crate::record::{find_in_leaf, leaf_data, Leaf};
+use crate::verdict::{ASKED_FORK, LENGTH};
+use std::ops::Range;
+
+/// Which of seen, not seen or refused a salvage came to.
+#[derive(Clone, Copy, Debug, PartialEq, Eq)]
+pub enum SalvageAnswer {
+    Seen { node: u32, record: u32 },
+    NotSeen,
+    Refused { number: u32, place: u32 },
+}
+
+/// The answer to a salvage and the place of the data in the image.
+#[derive(Clone, Debug, PartialEq, Eq)]
+pub struct Salvage {
+    pub answer: SalvageAnswer,
+    /// The 12 data bytes of a seen record.
+    pub data: Option<Range<usize>>,
+}
+
+/// Finds the first record with the key in any node from 1 up that looks like a leaf.
+pub fn salvage(image: &[u8], file: u32, fork: u8, start: u16) -> Salvage {
+    if !is_lawful_fork(fork) {
+        return refused(ASKED_FORK);
+    }
+    if image.len() > MOST_NODES * NODE_SIZE {
+        return refused(LENGTH);
+    }
+    let asked = Key { file, fork, start }.packed();
+    for (number, node) in whole_nodes(image).iter().enumerate().skip(1) {
+        if let Some(record) = find_in_any(node, asked) {
+            return seen(number, record);
+        }
+    }
+    Salvage { answer: SalvageAnswer::NotSeen, data: None }
+}
+
+fn find_in_any(node: &Node, asked: u64) -> Option<usize> {
+    let counts = Leaf::is_well_formed(node) && Leaf::keys_ascend_within(node, &(0..u64::MAX));
+    if counts {
+        find_in_leaf(node, asked)
+    } else {
+        None
+    }
+}
+
+fn seen(number: usize, record: usize) -> Salvage {
+    Salvage {
+        answer: SalvageAnswer::Seen { node: number as u32, record: record as u32 },
+        data: Some(range_in_image(number, leaf_data(record))),
+    }
+}
+
+fn refused(number: u32) -> Salvage {
+    Salvage { answer: SalvageAnswer::Refused { number, place: 0 }, data: None }
+}

@@ -1,0 +1,115 @@
+//! Tests 4 to 7: the walk over the tree.
+
+use crate::header::Header;
+use crate::node::{back_link, forward_link, record_count, Node};
+use crate::node_set::NodeSet;
+use crate::record::{child, packed_key, Index, Leaf};
+use crate::verdict::{require, Verdict, CHILD, LINKS};
+use std::ops::Range;
+
+/// No packed key reaches this, so it stands for "no bound above".
+const UNBOUNDED: u64 = u64::MAX;
+
+/// What the header's leaf fields have to agree with.
+pub struct LeafTotals {
+    pub records: u32,
+    pub first: u32,
+    pub last: u32,
+}
+
+struct Walk<'a> {
+    nodes: &'a [Node],
+    depth: usize,
+    met: &'a mut NodeSet,
+    /// The node met last on each level, 0 for none; the levels count from 1.
+    last_met: [u32; 9],
+    first_leaf: u32,
+    leaf_records: u32,
+}
+
+/// Where a node hangs in the tree.
+struct Position {
+    parent: u32,
+    level: usize,
+    bounds: Range<u64>,
+}
+
+/// Walks a tree whose header has passed test 2 and adds its nodes to those met.
+pub fn walk(nodes: &[Node], header: &Header, met: &mut NodeSet) -> Result<LeafTotals, Verdict> {
+    let mut walk =
+        Walk { nodes, depth: header.depth, met, last_met: [0; 9], first_leaf: 0, leaf_records: 0 };
+    if header.depth > 0 {
+        let root = Position { parent: 0, level: 1, bounds: 0..UNBOUNDED };
+        walk.visit(header.root, root)?;
+        walk.test_level_ends()?;
+    }
+    Ok(LeafTotals {
+        records: walk.leaf_records,
+        first: walk.first_leaf,
+        last: walk.last_met[header.depth],
+    })
+}
+
+impl Walk<'_> {
+    fn visit(&mut self, number: u32, position: Position) -> Result<(), Verdict> {
+        let Position { parent, level, bounds } = position;
+        // Node 0 and the map chain have been met before the tree, so they fall out here too.
+        let new = (number as usize) < self.nodes.len() && self.met.insert(number);
+        require(new, CHILD, parent)?;
+
+        let node = &self.nodes[number as usize];
+        let is_leaf = level == self.depth;
+        if is_leaf {
+            Leaf::test(node, number, level, &bounds)?;
+        } else {
+            Index::test(node, number, level, &bounds)?;
+        }
+        self.test_links(number, level)?;
+
+        if is_leaf {
+            self.count_leaf(number);
+            Ok(())
+        } else {
+            self.visit_children(number, level, bounds.end)
+        }
+    }
+
+    /// Each child lies between its pointer key and the next, or the bound from above.
+    fn visit_children(&mut self, parent: u32, level: usize, end: u64) -> Result<(), Verdict> {
+        let records = Index::records(&self.nodes[parent as usize]);
+        for (index, record) in records.iter().enumerate() {
+            let low = packed_key(record);
+            let high = records.get(index + 1).map_or(end, packed_key);
+            let position = Position { parent, level: level + 1, bounds: low..high };
+            self.visit(child(record), position)?;
+        }
+        Ok(())
+    }
+
+    fn test_links(&mut self, number: u32, level: usize) -> Result<(), Verdict> {
+        let before = self.last_met[level];
+        let node = &self.nodes[number as usize];
+        require(back_link(node) == before, LINKS, number)?;
+        if before != 0 {
+            let forward = forward_link(&self.nodes[before as usize]);
+            require(forward == number, LINKS, before)?;
+        }
+        self.last_met[level] = number;
+        Ok(())
+    }
+
+    fn test_level_ends(&self) -> Result<(), Verdict> {
+        for &last in &self.last_met[1..=self.depth] {
+            let forward = forward_link(&self.nodes[last as usize]);
+            require(forward == 0, LINKS, last)?;
+        }
+        Ok(())
+    }
+
+    fn count_leaf(&mut self, number: u32) {
+        if self.first_leaf == 0 {
+            self.first_leaf = number;
+        }
+        self.leaf_records += record_count(&self.nodes[number as usize]) as u32;
+    }
+}

@@ -1,0 +1,37 @@
+//! Which number and place a test answers with.
+
+pub const LENGTH: u32 = 1;
+pub const HEADER: u32 = 2;
+pub const MAP_CHAIN: u32 = 3;
+pub const CHILD: u32 = 4;
+pub const NODE_FORM: u32 = 5;
+pub const KEY_ORDER: u32 = 6;
+pub const LINKS: u32 = 7;
+pub const LEAF_TOTALS: u32 = 8;
+pub const MAP_BITS: u32 = 9;
+pub const FREE_COUNT: u32 = 10;
+pub const ASKED_FORK: u32 = 11;
+
+/// The outcome of a check: a number of the table and the place that belongs to it.
+#[derive(Clone, Copy, Debug, PartialEq, Eq)]
+pub struct Verdict {
+    pub number: u32,
+    pub place: u32,
+}
+
+impl Verdict {
+    pub const SOUND: Verdict = Verdict::new(0, 0);
+
+    pub const fn new(number: u32, place: u32) -> Self {
+        Verdict { number, place }
+    }
+}
+
+/// Passes when `holds`, so that tests read as a list of rules with their verdicts.
+pub fn require(holds: bool, number: u32, place: u32) -> Result<(), Verdict> {
+    if holds {
+        Ok(())
+    } else {
+        Err(Verdict::new(number, place))
+    }
+}

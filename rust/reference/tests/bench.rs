@@ -1,0 +1,129 @@
+//! Every image of the paper's section "Images on the bench", with the paper's answer.
+
+use images::bench::*;
+use reference::{check, lookup, Answer, Key, Lookup, Verdict};
+
+fn verdict(number: u32, place: u32) -> Verdict {
+    Verdict { number, place }
+}
+
+fn refused(number: u32, place: u32) -> Lookup {
+    Lookup { answer: Answer::Refused { number, place }, path: [0; 8], path_len: 0, data: None }
+}
+
+fn word(image: &[u8], at: usize) -> u16 {
+    u16::from_be_bytes([image[at], image[at + 1]])
+}
+
+#[test]
+fn lengths() {
+    assert_eq!(check(&[]), verdict(1, 0));
+    assert_eq!(check(&[0; 511]), verdict(1, 0));
+    assert_eq!(check(&[0; 512]), verdict(2, 0));
+    assert_eq!(check(&vec![0; 3_072_512]), verdict(1, 0));
+}
+
+#[test]
+fn e1_is_sound_and_empty() {
+    assert_eq!(check(&e1()), verdict(0, 0));
+    let absent =
+        Lookup { answer: Answer::Absent { node: 0 }, path: [0; 8], path_len: 0, data: None };
+    let keys = [(0, 0x00, 0), (16, 0x00, 5), (16, 0xFF, 5), (u32::MAX, 0xFF, u16::MAX)];
+    for (file, fork, start) in keys {
+        assert_eq!(lookup(&e1(), file, fork, start), absent);
+    }
+}
+
+#[test]
+fn e1_spoiled() {
+    assert_eq!(check(&e1_with_map_byte(0x00)), verdict(9, 0));
+    assert_eq!(check(&e1_with_map_byte(0xC0)), verdict(9, 1));
+    assert_eq!(check(&e1_with_free_1()), verdict(10, 0));
+    assert_eq!(lookup(&e1_with_free_1(), 16, 0x00, 5), refused(10, 0));
+}
+
+#[test]
+fn l1_bytes_are_the_papers() {
+    let image = l1();
+    let mut header = [0; 512];
+    header[8..12].copy_from_slice(&[0x01, 0x00, 0x00, 0x03]);
+    header[14..32].copy_from_slice(&[0, 1, 0, 0, 0, 1, 0, 0, 0, 1, 0, 0, 0, 1, 0, 0, 0, 1]);
+    header[32..44].copy_from_slice(&[0x02, 0x00, 0x00, 0x07, 0, 0, 0, 2, 0, 0, 0, 0]);
+    header[0xF8] = 0xC0;
+    header[504..].copy_from_slice(&[0x01, 0xF8, 0x00, 0xF8, 0x00, 0x78, 0x00, 0x0E]);
+    let mut leaf = [0; 512];
+    leaf[8..12].copy_from_slice(&[0xFF, 0x01, 0x00, 0x01]);
+    leaf[14..22].copy_from_slice(&[0x07, 0x00, 0x00, 0x00, 0x00, 0x10, 0x00, 0x05]);
+    leaf[22..26].copy_from_slice(&[0x00, 0x64, 0x00, 0x03]);
+    leaf[508..].copy_from_slice(&[0x00, 0x22, 0x00, 0x0E]);
+    assert_eq!(image[..512], header);
+    assert_eq!(image[512..], leaf);
+}
+
+#[test]
+fn l1_lookups() {
+    let image = l1();
+    let path = [1, 0, 0, 0, 0, 0, 0, 0];
+    assert_eq!(check(&image), verdict(0, 0));
+    let found = Lookup {
+        answer: Answer::Found { node: 1, record: 0 },
+        path,
+        path_len: 1,
+        // The data follow the 14 bytes of node 1 and the 8 of the key.
+        data: Some(534..546),
+    };
+    assert_eq!(lookup(&image, 16, 0x00, 5), found);
+    let absent = Lookup { answer: Answer::Absent { node: 1 }, path, path_len: 1, data: None };
+    assert_eq!(lookup(&image, 16, 0xFF, 5), absent);
+    assert_eq!(lookup(&image, 16, 0x01, 5), refused(11, 0));
+}
+
+#[test]
+fn l1_with_a_wrong_back_link() {
+    assert_eq!(check(&l1_with_back_link_1()), verdict(7, 1));
+    assert_eq!(lookup(&l1_with_back_link_1(), 16, 0x00, 5), refused(7, 1));
+    // The asked fork is tested before the image.
+    assert_eq!(lookup(&l1_with_back_link_1(), 16, 0x01, 5), refused(11, 0));
+}
+
+#[test]
+fn key_order() {
+    let key = |file, fork, start| Key { file, fork, start };
+    let low = key(16, 0x00, 9);
+    let middle = key(16, 0xFF, 0);
+    let high = key(17, 0x00, 0);
+    assert_eq!(low.packed(), 268_435_465);
+    assert_eq!(middle.packed(), 285_147_136);
+    assert_eq!(high.packed(), 285_212_672);
+    assert_eq!(low.compare(middle), -1);
+    assert_eq!(middle.compare(high), -1);
+    assert_eq!(high.compare(low), 1);
+    assert_eq!(middle.compare(middle), 0);
+}
+
+#[test]
+fn most_leaf_records() {
+    let full = leaf_with(22);
+    assert_eq!(word(&full, 1024 - 2 - 2 * 22), 0x01C6);
+    assert_eq!(check(&full), verdict(0, 0));
+    assert_eq!(check(&leaf_with(23)), verdict(5, 1));
+}
+
+#[test]
+fn most_index_records() {
+    let full = index_with(35);
+    assert_eq!(word(&full, 1024 - 2 - 2 * 35), 0x01B2);
+    assert_eq!(check(&full), verdict(0, 0));
+    assert_eq!(check(&index_with(36)), verdict(5, 1));
+}
+
+#[test]
+fn map_node_needed_from_2049_nodes() {
+    assert_eq!(check(&empty_tree(2_048)), verdict(0, 0));
+    assert_eq!(check(&empty_tree(2_049)), verdict(3, 0));
+}
+
+#[test]
+fn map_node_linked_to_itself_is_at_fault() {
+    assert_eq!(check(&map_node_linked_to_itself()), verdict(3, 1));
+}

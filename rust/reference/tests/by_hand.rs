@@ -1,0 +1,263 @@
+//! The tree laid out by hand: changes whose verdicts are worked out from its picture.
+
+use images::by_hand::{file_key, three_levels_by_hand};
+use images::spoil::Patch::{self, *};
+use images::Key;
+use reference::{check, lookup, Answer, Verdict};
+
+const HEADER_MAP: usize = 0xF8;
+const MAP_NODE: usize = 10;
+
+fn node(number: usize) -> usize {
+    number * 512
+}
+
+fn forward(number: usize, link: u32) -> Patch {
+    Patch::long(node(number), link)
+}
+
+fn back(number: usize, link: u32) -> Patch {
+    Patch::long(node(number) + 4, link)
+}
+
+fn reserved(number: usize) -> Patch {
+    Patch::byte(node(number) + 13, 1)
+}
+
+fn root(number: u32) -> Patch {
+    Patch::long(16, number)
+}
+
+fn child(number: usize, record: usize, child: u32) -> Patch {
+    Patch::long(node(number) + 14 + 12 * record + 8, child)
+}
+
+fn index_key(number: usize, record: usize, key: Key) -> Patch {
+    Patch::bytes(node(number) + 14 + 12 * record, &key.bytes())
+}
+
+fn leaf_key(number: usize, record: usize, key: Key) -> Patch {
+    Patch::bytes(node(number) + 14 + 20 * record, &key.bytes())
+}
+
+fn changed(patches: &[Patch]) -> Vec<u8> {
+    let mut image = three_levels_by_hand();
+    for patch in patches {
+        match patch {
+            Write { at, bytes } => image[*at..*at + bytes.len()].copy_from_slice(bytes),
+            Resize(len) => image.resize(*len, 0),
+        }
+    }
+    image
+}
+
+#[track_caller]
+fn gives(patches: &[Patch], number: u32, place: u32) {
+    assert_eq!(check(&changed(patches)), Verdict { number, place });
+}
+
+#[track_caller]
+fn sound(patches: &[Patch]) {
+    gives(patches, 0, 0);
+}
+
+#[test]
+fn unchanged_and_unjudged() {
+    sound(&[]);
+    // Nodes 8 and 9 are free; the reserved part of record 1 and all of record 2 hold anything.
+    sound(&[Patch::bytes(node(8), &[0xA5; 1024])]);
+    sound(&[Patch::bytes(44, &[0xA5; 76 + 128])]);
+    // Between the records of leaf 4, which end at 54, and its three offset words.
+    sound(&[Patch::bytes(node(4) + 54, &[0xA5; 512 - 54 - 6])]);
+    // Data of a leaf record.
+    sound(&[Patch::bytes(node(4) + 22, &[0xA5; 12])]);
+}
+
+#[test]
+fn map_chain() {
+    gives(&[forward(0, 11)], 3, 0);
+    gives(&[forward(0, 8)], 3, 8);
+    gives(&[forward(0, 4)], 3, 4);
+    gives(&[forward(MAP_NODE, 10)], 3, 10);
+    gives(&[forward(MAP_NODE, 11)], 3, 10);
+    gives(&[forward(MAP_NODE, 4)], 3, 4);
+    // A map node's fields come before its link.
+    gives(&[reserved(MAP_NODE), forward(MAP_NODE, 4)], 3, 10);
+}
+
+#[test]
+fn map_node_left_out_of_the_chain() {
+    let no_link = forward(0, 0);
+    let no_bit = Patch::byte(HEADER_MAP + 1, 0);
+    let one_more_free = Patch::long(40, 3);
+    gives(std::slice::from_ref(&no_link), 9, 10);
+    gives(&[no_link.clone(), no_bit.clone()], 10, 0);
+    sound(&[no_link, no_bit, one_more_free]);
+}
+
+#[test]
+fn child_numbers() {
+    gives(&[root(0)], 4, 0);
+    gives(&[root(11)], 4, 0);
+    gives(&[root(10)], 4, 0);
+    gives(&[child(1, 1, 2)], 4, 1);
+    gives(&[child(2, 0, 1)], 4, 2);
+    gives(&[child(2, 0, 2)], 4, 2);
+    gives(&[child(3, 1, 4)], 4, 3);
+    gives(&[child(3, 1, 10)], 4, 3);
+    gives(&[child(3, 0, 0)], 4, 3);
+    // Test 4 waits until the child's turn: all below the child before it comes first.
+    gives(&[child(1, 1, 0), reserved(5)], 5, 5);
+    gives(&[child(1, 1, 0), reserved(6)], 4, 1);
+}
+
+#[test]
+fn nodes_in_the_wrong_place() {
+    // A leaf has level 3, but the root must have 1.
+    gives(&[root(4)], 5, 4);
+    // Free node 8 is all zeros.
+    gives(&[child(2, 1, 8)], 5, 8);
+    // Leaf 5 under pointer 10 of node 2 must stay below 25.
+    gives(&[child(2, 0, 5)], 6, 5);
+    // Leaf 6 under pointer 25 of node 2 must stay below 45.
+    gives(&[child(2, 1, 6)], 6, 6);
+    // Node 3 under pointer 10 of the root must stay below 45.
+    gives(&[child(1, 0, 3)], 6, 3);
+}
+
+#[test]
+fn bounds_above() {
+    // Set by the parent.
+    sound(&[leaf_key(4, 1, file_key(24))]);
+    gives(&[leaf_key(4, 1, file_key(25))], 6, 4);
+    // Set by the root; leaf 5 is the last child of node 2.
+    sound(&[leaf_key(5, 1, file_key(44))]);
+    gives(&[leaf_key(5, 1, file_key(45))], 6, 5);
+    gives(&[leaf_key(5, 1, file_key(47))], 6, 5);
+    // Nothing bounds the last leaf from above.
+    sound(&[leaf_key(7, 1, Key::new(u32::MAX, 0xFF, u16::MAX))]);
+    // Pointers are bound as well.
+    sound(&[index_key(2, 1, file_key(30))]);
+    gives(&[index_key(2, 1, file_key(45))], 6, 2);
+}
+
+#[test]
+fn bounds_below() {
+    sound(&[leaf_key(5, 0, file_key(25))]);
+    gives(&[leaf_key(5, 0, file_key(24))], 6, 5);
+    gives(&[leaf_key(4, 0, file_key(9))], 6, 4);
+    sound(&[index_key(3, 0, file_key(45))]);
+    gives(&[index_key(3, 0, file_key(44))], 6, 3);
+    // A pointer may lie below its child, as far as its own bound goes.
+    sound(&[index_key(1, 0, file_key(0))]);
+    gives(&[index_key(1, 0, file_key(11))], 6, 2);
+    gives(&[index_key(3, 1, file_key(71))], 6, 7);
+}
+
+#[test]
+fn order_within_a_node() {
+    gives(&[leaf_key(6, 1, file_key(50))], 6, 6);
+    gives(&[index_key(1, 1, file_key(10))], 6, 1);
+    // A resource fork comes after the data fork of its file, whatever the start.
+    let data = Key::new(50, 0x00, 9);
+    let resource = Key::new(50, 0xFF, 0);
+    sound(&[leaf_key(6, 0, data), leaf_key(6, 1, resource)]);
+    gives(&[leaf_key(6, 0, resource), leaf_key(6, 1, data)], 6, 6);
+}
+
+#[test]
+fn form_before_order_before_links() {
+    let equal_keys = leaf_key(4, 0, file_key(20));
+    let key_length = Patch::byte(node(4) + 14 + 20, 6);
+    gives(&[equal_keys.clone(), key_length], 5, 4);
+    gives(&[equal_keys, back(4, 1)], 6, 4);
+}
+
+#[test]
+fn links() {
+    gives(&[back(1, 1)], 7, 1);
+    gives(&[back(6, 4)], 7, 6);
+    gives(&[back(6, 0)], 7, 6);
+    gives(&[forward(5, 7)], 7, 5);
+    gives(&[forward(2, 0)], 7, 2);
+    gives(&[forward(1, 1)], 7, 1);
+    gives(&[forward(3, 2)], 7, 3);
+    gives(&[forward(7, 4)], 7, 7);
+}
+
+#[test]
+fn order_of_link_tests() {
+    // At leaf 6: first its own back link, then the forward link of leaf 5.
+    gives(&[forward(5, 7), back(6, 4)], 7, 6);
+    // The forward link of node 2 is looked at from node 3, after the leaves 4 and 5.
+    gives(&[forward(2, 0), reserved(5)], 5, 5);
+    gives(&[forward(2, 0), reserved(3)], 5, 3);
+    gives(&[forward(2, 0), reserved(6)], 7, 2);
+    // The ends of the levels come after the whole walk, from the root down.
+    gives(&[forward(1, 5), reserved(7)], 5, 7);
+    gives(&[forward(1, 5), forward(3, 2), forward(7, 4)], 7, 1);
+    gives(&[forward(3, 2), forward(7, 4)], 7, 3);
+}
+
+#[test]
+fn totals_bits_and_free_count() {
+    let leaf_records = Patch::long(20, 7);
+    let free = Patch::long(40, 3);
+    let bit_8_set = Patch::byte(HEADER_MAP + 1, 0b1010_0000);
+    gives(&[leaf_records.clone(), bit_8_set.clone(), free.clone()], 8, 0);
+    gives(&[bit_8_set.clone(), free.clone()], 9, 8);
+    gives(&[free], 10, 0);
+    gives(&[Patch::long(24, 5)], 8, 0);
+    gives(&[Patch::long(28, 6)], 8, 0);
+    // The links are tested before the totals, the totals before the bits.
+    gives(&[forward(7, 4), leaf_records.clone()], 7, 7);
+    gives(&[leaf_records, bit_8_set], 8, 0);
+}
+
+#[test]
+fn lowest_wrong_bit() {
+    // Bit 3 is cleared and bit 9 set; 3 is the lower.
+    let both = Patch::bytes(HEADER_MAP, &[0b1110_1111, 0b0110_0000]);
+    gives(&[both], 9, 3);
+    // Two wrong bits in one byte.
+    gives(&[Patch::byte(HEADER_MAP + 1, 0b0000_0001)], 9, 10);
+    gives(&[Patch::byte(HEADER_MAP + 1, 0b0110_0001)], 9, 9);
+    // Bits beyond the last node: the next one, and the ends of both map records.
+    gives(&[Patch::byte(HEADER_MAP + 1, 0b0011_0000)], 9, 11);
+    gives(&[Patch::byte(HEADER_MAP + 255, 0b0000_0001)], 9, 2_047);
+    gives(&[Patch::byte(node(MAP_NODE) + 14, 0b1000_0000)], 9, 2_048);
+    gives(&[Patch::byte(node(MAP_NODE) + 14 + 493, 0b0000_0001)], 9, 5_999);
+}
+
+#[track_caller]
+fn looks_up(file: u32, answer: Answer, path: &[u32]) {
+    let found = lookup(&three_levels_by_hand(), file, 0x00, 0);
+    assert_eq!(found.answer, answer);
+    assert_eq!(&found.path[..found.path_len], path);
+    assert!(found.path[found.path_len..].iter().all(|&unused| unused == 0));
+    let data = match answer {
+        Answer::Found { node, record } => {
+            let start = node as usize * 512 + 14 + record as usize * 20 + 8;
+            Some(start..start + 12)
+        }
+        _ => None,
+    };
+    assert_eq!(found.data, data);
+}
+
+#[test]
+fn lookups_and_their_paths() {
+    looks_up(10, Answer::Found { node: 4, record: 0 }, &[1, 2, 4]);
+    looks_up(40, Answer::Found { node: 5, record: 1 }, &[1, 2, 5]);
+    looks_up(50, Answer::Found { node: 6, record: 0 }, &[1, 3, 6]);
+    looks_up(80, Answer::Found { node: 7, record: 1 }, &[1, 3, 7]);
+    // No pointer of the root is low enough.
+    looks_up(9, Answer::Absent { node: 1 }, &[1]);
+    // An equal pointer key is not the record itself.
+    looks_up(25, Answer::Absent { node: 5 }, &[1, 2, 5]);
+    looks_up(24, Answer::Absent { node: 4 }, &[1, 2, 4]);
+    // The root leads to node 3, where no pointer is low enough.
+    looks_up(45, Answer::Absent { node: 3 }, &[1, 3]);
+    looks_up(49, Answer::Absent { node: 3 }, &[1, 3]);
+    looks_up(90, Answer::Absent { node: 7 }, &[1, 3, 7]);
+}

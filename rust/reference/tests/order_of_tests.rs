@@ -1,0 +1,70 @@
+//! Two faults at once: the answer is the one that the order of tests comes to first.
+
+use images::spoil::{spoilings, Spoiling};
+use images::{build, Built, Plan};
+use reference::{check, Verdict};
+
+/// Whether the second fault leaves the first one standing.
+fn independent(a: &Spoiling, b: &Spoiling) -> bool {
+    // A pointer raised by one fault can make room for a key that another put too high.
+    let both_move_keys = a.number == 6 && b.number == 6;
+    !a.overlaps(b) && !both_move_keys
+}
+
+fn assert_first_fault_wins(built: &Built) -> usize {
+    let known = spoilings(built);
+    let mut pairs = 0;
+    for (index, a) in known.iter().enumerate() {
+        for b in &known[index + 1..] {
+            if independent(a, b) {
+                assert_earlier_wins(built, a, b);
+                pairs += 1;
+            }
+        }
+    }
+    pairs
+}
+
+fn assert_earlier_wins(built: &Built, a: &Spoiling, b: &Spoiling) {
+    let (earlier, later) = if a.moment <= b.moment { (a, b) } else { (b, a) };
+    let mut image = built.image.clone();
+    // A wrong length is the earliest fault, so the image is cut after all other changes.
+    later.apply(&mut image);
+    earlier.apply(&mut image);
+    let expected = Verdict { number: earlier.number, place: earlier.place };
+    assert_eq!(check(&image), expected, "{} and {}", earlier.name(), later.name());
+}
+
+fn small(seed: u64, level_sizes: &[usize], map_nodes: usize) -> Built {
+    build(&Plan {
+        records_per_leaf: 1..=3,
+        map_nodes,
+        free_nodes: 3,
+        ..Plan::untidy(seed, level_sizes)
+    })
+}
+
+#[test]
+fn empty_tree() {
+    assert!(assert_first_fault_wins(&small(1, &[], 2)) > 1_000);
+}
+
+#[test]
+fn one_leaf() {
+    assert!(assert_first_fault_wins(&small(2, &[1], 0)) > 1_000);
+}
+
+#[test]
+fn two_levels() {
+    assert!(assert_first_fault_wins(&small(3, &[1, 3], 1)) > 10_000);
+}
+
+#[test]
+fn three_levels() {
+    assert!(assert_first_fault_wins(&small(4, &[1, 2, 5], 2)) > 10_000);
+}
+
+#[test]
+fn five_levels() {
+    assert!(assert_first_fault_wins(&small(5, &[1, 1, 2, 2, 4], 1)) > 10_000);
+}

@@ -1,0 +1,83 @@
+//! Generated sound trees are sound, and hold what was built into them.
+
+use images::{build, samples, Built, Plan};
+use reference::{check, leaf_records, Verdict};
+
+fn assert_sound(built: &Built, name: &str) {
+    assert_eq!(check(&built.image), Verdict::SOUND, "{name}");
+    let listed = leaf_records(&built.image);
+    assert_eq!(listed.len(), built.records.len(), "{name}");
+    for (listed, record) in listed.iter().zip(&built.records) {
+        let key = (listed.key.file, listed.key.fork, listed.key.start);
+        assert_eq!(key, (record.key.file, record.key.fork, record.key.start), "{name}");
+        assert_eq!(listed.data, record.data, "{name}");
+    }
+}
+
+#[test]
+fn random_trees_of_every_depth() {
+    for depth in 0..=8 {
+        for seed in 0..60 {
+            let built = build(&Plan::random(seed, depth, 40));
+            assert_sound(&built, &format!("depth {depth} seed {seed}"));
+        }
+    }
+}
+
+#[test]
+fn wide_random_trees() {
+    for depth in 2..=5 {
+        for seed in 100..110 {
+            let built = build(&Plan::random(seed, depth, 1_100));
+            assert_sound(&built, &format!("depth {depth} seed {seed}"));
+        }
+    }
+}
+
+#[test]
+fn trees_one_node_wide() {
+    for depth in 1..=8 {
+        let plan = Plan { records_per_leaf: 1..=1, ..Plan::tidy(7, &vec![1; depth]) };
+        assert_sound(&build(&plan), &format!("depth {depth}"));
+    }
+}
+
+#[test]
+fn samples_are_sound() {
+    assert_sound(&samples::two_level(), "two_level");
+    assert_sound(&samples::three_level(), "three_level");
+    assert_sound(&samples::longest_listed(), "longest_listed");
+    assert_sound(&samples::three_level_large(), "three_level_large");
+}
+
+#[test]
+fn largest_has_6000_nodes_and_128150_records() {
+    let built = samples::largest();
+    assert_eq!(built.total(), 6_000);
+    assert_eq!(built.map_chain.len(), 1);
+    assert_eq!(built.records.len(), 5_825 * 22);
+    assert_sound(&built, "largest");
+}
+
+#[test]
+fn a_map_node_that_is_just_needed() {
+    // 2,047 nodes besides the header fill its map; one free node more takes a map node.
+    for (free_nodes, map_nodes) in [(2_047, 0), (2_048, 1)] {
+        let plan = Plan { free_nodes, ..Plan::tidy(8, &[]) };
+        let built = build(&plan);
+        assert_eq!(built.map_chain.len(), map_nodes);
+        assert_sound(&built, &format!("{free_nodes} free"));
+    }
+}
+
+#[test]
+fn all_but_the_header_may_be_map_nodes() {
+    let plan = Plan { map_nodes: 5_999, ..Plan::tidy(9, &[]) };
+    assert_sound(&build(&plan), "only map nodes");
+}
+
+#[test]
+fn the_same_plan_gives_the_same_bytes() {
+    let plan = Plan::random(11, 4, 40);
+    assert!(build(&plan).image == build(&plan).image);
+}
