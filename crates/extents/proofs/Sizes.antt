@@ -5,6 +5,8 @@ use mathlib.Core.Logic.{_≢_}
 use mathlib.Core.Bool.{Bool, true, false}
 use mathlib.Core.List.{List}
 use Prim.Native.Nat.{ℕ, _+_, _≤_}
+use native.Mathlib.Nat.{suc-mul}
+use native.Mathlib.Numerals.{add-one}
 use native.Mathlib.Omega.{arith}
 use native.Mathlib.Decide.{ℕ-discrete}
 use lib.Dec.{eqb}
@@ -12,7 +14,7 @@ use borrow.Author.Tests.{eqb-true}
 use Rattle.btree.specs.Header.{depthOf, countOf, viewOf}
 use Rattle.hfs.specs.Hfs.{hfs}
 use Rattle.btree.proofs.Decisions.{cond-yes, cond-no}
-use Rattle.extents.specs.Format.{leafKind, indexKind, recordSize, maxRecords, kindOn, view}
+use Rattle.extents.specs.Format.{leafKind, indexKind, recordSize, maxRecords, kindOn, kindOf, recordAt, view}
 use Rattle.extents.specs.Inner.{pick}
 
 module _ (kind : ℕ) where
@@ -43,3 +45,8 @@ leaf-few img n d w = go (eqb (d + 1) (depthOf img)) refl
         let k = cond-yes (ℕ-discrete (d + 1) (depthOf img)) leafKind indexKind (eqb-true (d + 1) (depthOf img) e) in
         let m = max-leaf (kindOn (depthOf img) d) k in
         let f = w .records .few in omega arith
+
+-- from one record to the next
+pub record-next : (img : List ℕ) (n i : ℕ) → recordAt img n (i + 1) ≡ recordAt img n i + recordSize (kindOf img n)
+unfolding recordAt
+record-next img n i = let e = suc-mul i (recordSize (kindOf img n)) in rw (add-one i) (omega arith)

@@ -6,7 +6,7 @@ ghost use Rattle.image.specs.Bytes.{be16At};
 ghost use Rattle.btree.specs.Decide.{says};
 ghost use Rattle.btree.specs.Walk.{decOrdered};
 ghost use Rattle.extents.specs.Key.{Lawful};
-ghost use Rattle.extents.specs.Format.{recordSize, maxRecords, recordAt, decRecords, view};
+ghost use Rattle.extents.specs.Format.{recordSize, maxRecords, kindOf, recordAt, decRecords, view};
 ghost use Rattle.extents.specs.Inner.{Tells, bound};
 use super::key::is_lawful;
 use super::key::key_at;
@@ -55,6 +55,13 @@ pub fn child_of(image: &[u8], node: u32, i: u32) -> u32
     be32(image, record_at(image, node, i) + 8)
 }
 
+// From one record of a node to the next.
+fn record_step(image: &[u8], node: u32) -> usize
+    ensures { λ r. ⌜ (r ≡ recordSize (kindOf (now (image .entry)) node)) × (r ≤ 20) ⌝ }
+{
+    if kind_of(image, node) == 255 { 20 } else { 12 }
+}
+
 // The offset words of c records and of the free space after them.
 fn offsets_right(image: &[u8], node: u32, c: u32, size: u32) -> bool
     requires { ⌜ (c ≤ 35) × (size ≤ 20) ⌝ }
@@ -78,15 +85,17 @@ fn keys_lawful(image: &[u8], node: u32, c: u32) -> bool
     requires { ⌜ c ≤ 35 ⌝ }
     ensures { λ r. ⌜ Tells r ((i : ℕ) → i < c → (getD (now (image .entry)) (recordAt (now (image .entry)) node i) 0 ≡ 7) × Lawful (getD (now (image .entry)) (recordAt (now (image .entry)) node i + 1) 0)) ⌝ }
 {
+    let step = record_step(image, node);
+    let mut at = record_at(image, node, 0);
     let mut i: u32 = 0;
     while i < c {
-        let at = record_at(image, node, i);
         if byte_at(image, at) != 7 {
             return false;
         }
         if !is_lawful(byte_at(image, at + 1)) {
             return false;
         }
+        at += step;
         i += 1;
     }
     true
@@ -120,10 +129,12 @@ pub fn keys_ordered(image: &[u8], node: u32, low: u64, high: u64) -> bool
     ensures { λ r. ⌜ r ≡ says (decOrdered (view (now (image .entry))) low (bound high) node) ⌝ }
 {
     let c = count_of(image, node);
+    let step = record_step(image, node);
+    let mut at = record_at(image, node, 0);
     let mut next = low;
     let mut i: u32 = 0;
     while i < c {
-        let key = key_of(image, node, i);
+        let key = key_at(image, at);
         if key < next {
             return false;
         }
@@ -131,6 +142,7 @@ pub fn keys_ordered(image: &[u8], node: u32, low: u64, high: u64) -> bool
             return false;
         }
         next = key + 1;
+        at += step;
         i += 1;
     }
     true
