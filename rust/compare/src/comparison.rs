@@ -3,8 +3,10 @@
 use crate::expected;
 use crate::seed::{seed, SEED_VARIABLE};
 use images::Key;
-use std::fmt::{Debug, Write};
+use std::fmt::Debug;
 use std::{env, fs};
+
+const MOST_SHOWN: usize = 2_048;
 
 /// How much was compared.
 #[derive(Clone, Copy, Debug, Default)]
@@ -75,20 +77,18 @@ impl Comparison {
     }
 }
 
-/// Writes the image to a file and says where it is; short ones are shown as well.
+/// A short image as hex digits; a longer one is written to a file.
 fn show(name: &str, image: &[u8]) -> String {
-    let file = env::temp_dir().join(format!("hfs_difference_{name}.img"));
-    let mut shown = match fs::write(&file, image) {
-        Ok(()) => format!("image of {} bytes in {}", image.len(), file.display()),
-        Err(error) => format!("image of {} bytes, not written: {error}", image.len()),
-    };
-    if image.len() <= 2_048 {
-        shown += ": ";
-        for byte in image {
-            write!(shown, "{byte:02x}").expect("writing to a string does not fail");
-        }
+    let len = image.len();
+    if len <= MOST_SHOWN {
+        let digits: String = image.iter().map(|byte| format!("{byte:02x}")).collect();
+        return format!("image of {len} bytes: {digits}");
     }
-    shown
+    let file = env::temp_dir().join(format!("hfs_difference_{name}.img"));
+    match fs::write(&file, image) {
+        Ok(()) => format!("image of {len} bytes in {}", file.display()),
+        Err(error) => format!("image of {len} bytes, not written: {error}"),
+    }
 }
 
 #[cfg(test)]
