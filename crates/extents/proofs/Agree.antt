@@ -30,7 +30,7 @@ use Rattle.extents.proofs.Fresh.{Free, free-says}
 use Rattle.hfs.proofs.Marks.{marks-more}
 
 -- a step
-module _ (v : View) (w : Walk) (e : Entry) (t : Verdict) (clear : w .number ≡ 0) (is : t ≡ test v (freshIn (v .total) w (e .node)) (lastAt w (e .level)) e) where
+module _ (v : View) (w : Walk) (e : Entry) (t : Verdict) (clear : w .number ≡ 0) (is : t ≡ test v (freshIn (v .total) (w .visited) (e .node)) (lastAt w (e .level)) e) where
   step-lands : step v w e ≡ landed v w e t
   unfolding step
   step-lands = if-zero (w .number) _ w clear ∙ ap (landed v w e) (sym is)
@@ -54,15 +54,15 @@ finish-stopped v w t es h = rw (steps-stuck v (stopped w t) es h) (if-other (t .
 
 module _ (v : View) (small : v .total ≤ 6000) (shallow : v .depth ≤ 8) where
   -- test 4 is the same
-  fresh-agree : (w : Walk) (done : List Entry) → Agrees v w done → (n : ℕ) → freshIn (v .total) w n ≡ says (decFresh v done n)
-  fresh-agree w done a n = free-says (v .total) w n (decFresh v done n) on (λ f. record { range = f .range; unmarked = a .marks n ∙ bit-not (met v done) n (off f) })
+  fresh-agree : (w : Walk) (done : List Entry) → Agrees v w done → (n : ℕ) → freshIn (v .total) (w .visited) n ≡ says (decFresh v done n)
+  fresh-agree w done a n = free-says (v .total) (w .visited) n (decFresh v done n) on (λ f. record { range = f .range; unmarked = a .marks n ∙ bit-not (met v done) n (off f) })
     where
       off : Fresh v done n → n ∈ met v done → ⊥
       off f m =
           ⊎-elim (f .new) (λ k. ⊎-elim (λ e. let z = f .pos in omega arith) (f .offChain) (List·Memᴰ·cases-cons k))
           (List·Memᴰ·append-cases (nodesOf done) m)
 
-      on : Free (v .total) w n → Fresh v done n
+      on : Free (v .total) (w .visited) n → Fresh v done n
       on f =
           record {
             pos = positive n refl;
@@ -134,7 +134,7 @@ module _ (v : View) (small : v .total ≤ 6000) (shallow : v .depth ≤ 8) where
       level : e .level < v .depth
       level = deep e (List·Memᴰ·head refl)
 
-      is : t ≡ test v (freshIn (v .total) w (e .node)) (lastAt w (e .level)) e
+      is : t ≡ test v (freshIn (v .total) (w .visited) (e .node)) (lastAt w (e .level)) e
       is = rw (fresh-agree w done a (e .node), a .lasts (e .level) (omega (arith, level)))
 
       go : (n : ℕ) → t .number ≡ n
@@ -160,7 +160,7 @@ module _ (v : View) (small : v .total ≤ 6000) (shallow : v .depth ≤ 8) where
       level : e .level < v .depth
       level = deep e (List·Memᴰ·head refl)
 
-      is : t ≡ test v (freshIn (v .total) w (e .node)) (lastAt w (e .level)) e
+      is : t ≡ test v (freshIn (v .total) (w .visited) (e .node)) (lastAt w (e .level)) e
       is = rw (fresh-agree w done a (e .node), a .lasts (e .level) (omega (arith, level)))
 
       go : (n : ℕ) → t .number ≡ n

@@ -43,8 +43,8 @@ unfoldable pub bound : ℕ → Option ℕ
 bound x = pick (eqb x 72057594037927936) none (some x)
 
 -- test 4: the bits set are those of the header, the map chain and the nodes met
-unfoldable pub freshIn : ℕ → Walk → ℕ → Bool
-freshIn total w n = pick (ltb n total) (eqb (bitOf (w .visited) n) 0) false
+unfoldable pub freshIn : ℕ → List ℕ → ℕ → Bool
+freshIn total bits n = pick (ltb n total) (eqb (bitOf bits n) 0) false
 
 unfoldable pub stopped : Walk → Verdict → Walk
 stopped w t =
@@ -75,7 +75,7 @@ lastAt w d = getD (w .last) d 0
 
 -- the tests at an entry, and what is kept of it; a state with a fault stays
 unfoldable pub step : View → Walk → Entry → Walk
-step v w e = ifZero (w .number) (landed v w e (test v (freshIn (v .total) w (e .node)) (lastAt w (e .level)) e)) w
+step v w e = ifZero (w .number) (landed v w e (test v (freshIn (v .total) (w .visited) (e .node)) (lastAt w (e .level)) e)) w
 
 unfoldable pub steps : View → Walk → List Entry → Walk
 steps v w [] = w

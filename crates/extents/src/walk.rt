@@ -62,13 +62,13 @@ fn node_right(image: &[u8], node: u32, level: u32) -> bool
 }
 
 // Test 4.
-fn is_fresh(w: Walk, total: u32, node: u32) -> bool
-    ensures { λ r. ⌜ r ≡ freshIn total w node ⌝ }
+fn is_fresh(visited: &[u8], total: u32, node: u32) -> bool
+    ensures { λ r. ⌜ r ≡ freshIn total (now (visited .entry)) node ⌝ }
 {
     if node >= total {
         return false;
     }
-    bit_at(&w.visited, node as usize) == 0
+    bit_at(visited, node as usize) == 0
 }
 
 fn last_on(w: Walk, level: u32) -> u32
@@ -88,12 +88,21 @@ fn leads(image: &[u8], p: u32, node: u32) -> bool
     forward_of(image, p) == node
 }
 
-// The tests at a node: 4, 5, 6, 7.
-fn tested(image: &[u8], w: Walk, node: u32, parent: u32, level: u32, low: u64, high: u64) -> Verdict
+// The tests at a node: 4, 5, 6, 7. Of the walk they need whether the node is fresh, and the node met before it on its level.
+fn tested(
+    image: &[u8],
+    fresh: bool,
+    p: u32,
+    node: u32,
+    parent: u32,
+    level: u32,
+    low: u64,
+    high: u64,
+) -> Verdict
     requires { ⌜ level < 8 ⌝ }
-    ensures { λ r. ⌜ r ≡ test (view (now (image .entry))) (freshIn (view (now (image .entry)) .total) w node) (lastAt w level) (entry node parent level low high) ⌝ }
+    ensures { λ r. ⌜ r ≡ test (view (now (image .entry))) fresh p (entry node parent level low high) ⌝ }
 {
-    if !is_fresh(w, be32(image, 36), node) {
+    if !fresh {
         return Verdict {
             number: 4,
             place: parent,
@@ -111,7 +120,6 @@ fn tested(image: &[u8], w: Walk, node: u32, parent: u32, level: u32, low: u64, h
             place: node,
         };
     }
-    let p = last_on(w, level);
     if back_of(image, node) != p {
         return Verdict {
             number: 7,
@@ -187,7 +195,9 @@ fn stepped(
     requires { ⌜ Ready (now image) level below w ⌝ }
     ensures { λ r. ⌜ Gives r (step (view (now (image .entry))) w (entry node parent level low high)) ⌝ }
 {
-    let t = tested(image, w, node, parent, level, low, high);
+    let fresh = is_fresh(&w.visited, be32(image, 36), node);
+    let p = w.last[level as usize];
+    let t = tested(image, fresh, p, node, parent, level, low, high);
     if t.number != 0 {
         return stopped_at(w, t);
     }

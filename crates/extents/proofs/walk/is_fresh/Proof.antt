@@ -14,7 +14,7 @@ bit-at-requires c κs = search needs
 
 returns-2 : tie.Need-returns-2
 unfolding freshIn
-returns-2 c = rw (lt-ltb _ _ (c .before .before .before .before .if1 .left), c .bit-at .ensures .0)
+returns-2 c = rw (lt-ltb _ _ (c .before .if1 .left), c .bit-at .ensures .0)
 
 pub is-fresh-spec : {M : Type 1} → statement M
 is-fresh-spec = tie.close (tie.spec returns bit-at-requires returns-2)
