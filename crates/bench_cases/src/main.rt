@@ -1,15 +1,11 @@
 // Those of the paper's bench images that are run and not computed: each is built as the paper says, and checked.
 ghost use Prim.Native.Nat.{_≤_};
+use bench_images::tree::put_empty_tree;
+use bench_images::tree::put_index_tree;
+use bench_images::tree::put_leaf_tree;
+use bench_images::tree::put_map_loop;
 use printing::lines::print;
 use printing::lines::print_verdict;
-use tree::put_empty_tree;
-use tree::put_index_tree;
-use tree::put_leaf_tree;
-use tree::put_map_loop;
-
-mod node;
-mod put;
-mod tree;
 
 fn say(name: &[u8], image: &[u8]) {
     print(name);
@@ -27,28 +23,27 @@ fn too_many_nodes() {
     say(b"3,072,512 bytes", &image);
 }
 
-fn leaf_records_22() {
+fn leaf_records(name: &[u8], n: u32, free: u32)
+    requires { ⌜ n ≤ 36 ⌝ }
+{
     let mut image = [0u8; 1024];
-    put_leaf_tree(&mut image, 22, 0x01C6);
-    say(b"22 leaf records", &image);
+    put_leaf_tree(&mut image, n, free);
+    say(name, &image);
 }
 
-fn leaf_records_23() {
-    let mut image = [0u8; 1024];
-    put_leaf_tree(&mut image, 23, 0x01DA);
-    say(b"23 leaf records", &image);
+fn say_index_tree(name: &[u8], image: &mut [u8], n: u32, free: u32, bits: u32)
+    requires { ⌜ n ≤ 36 ⌝ }
+{
+    put_index_tree(image, n, free, bits);
+    say(name, image);
 }
 
-fn index_records_35() {
-    let mut image = [0u8; 18944];
-    put_index_tree(&mut image, 35, 0x01B2, 0xF8);
-    say(b"35 index records", &image);
-}
-
-fn index_records_36() {
+fn index_records(name: &[u8], n: u32, free: u32, bits: u32)
+    requires { ⌜ n ≤ 36 ⌝ }
+{
     let mut image = [0u8; 19456];
-    put_index_tree(&mut image, 36, 0x01BE, 0xFC);
-    say(b"36 index records", &image);
+    let len = ((n as usize) + 2) * 512;
+    say_index_tree(name, &mut image[0..len], n, free, bits);
 }
 
 // Over lent bytes, so that the length of so long an array is proved once.
@@ -78,10 +73,10 @@ fn map_loop() {
 fn main() {
     zero_bytes();
     too_many_nodes();
-    leaf_records_22();
-    leaf_records_23();
-    index_records_35();
-    index_records_36();
+    leaf_records(b"22 leaf records", 22, 0x01C6);
+    leaf_records(b"23 leaf records", 23, 0x01DA);
+    index_records(b"35 index records", 35, 0x01B2, 0xF8);
+    index_records(b"36 index records", 36, 0x01BE, 0xFC);
     nodes_2048();
     nodes_2049();
     map_loop();

@@ -7,7 +7,6 @@ use Prim.Native.Nat.{ℕ, zero, suc, _+_, _≤_, _<_}
 use native.Mathlib.Omega.{arith}
 use native.Mathlib.Decide.{ℕ-discrete}
 use lib.ListN.{length}
-use Rattle.btree.specs.declared.Answer.{Answer}
 use Rattle.btree.specs.declared.Answer.the-variants.{Found, Absent}
 use Rattle.btree.specs.declared.Lookup.{Lookup}
 use Rattle.btree.specs.Lists.{_∈_, lastOr}
@@ -16,13 +15,13 @@ use Rattle.btree.specs.Header.{depthOf, viewOf}
 use Rattle.btree.specs.Search.{pathOf, answerOf, pathOut, refused, afterCheck, lookupOf}
 use Rattle.btree.proofs.Paths.{path-short, leaf-stands, leafList-once}
 use Rattle.btree.proofs.Answers.{found-record, record-found, absent-none, none-absent, absent-place}
-use Rattle.extents.specs.declared.key.Key.{Key}
-use Rattle.extents.specs.Key.{Lawful, decLawful, packed, keyAt}
-use Rattle.extents.specs.Format.{recordAt, keyOf, view}
-use Rattle.extents.specs.Reader.{Sound, verdict, leafList, searchPath, lookedUp, dataAt}
+use Rattle.formats.specs.declared.key.Key.{Key}
+use Rattle.formats.specs.Key.{Lawful, decLawful, packed, keyAt}
+use Rattle.formats.specs.Format.{recordAt, keyOf, view, dataAt}
+use Rattle.extents.specs.Reader.{Sound, verdict, leafList, searchPath, lookedUp}
 use Rattle.extents.specs.Demands.{HasKey, SoundAnswer, LookupSays}
-use Rattle.extents.specs.Inner.{Descends}
-use Rattle.extents.proofs.Order.{InRange, Bytes, key-range, packed-same}
+use Rattle.search.specs.Descent.{Descends}
+use Rattle.formats.proofs.Order.{InRange, Bytes, key-range, packed-same}
 use Rattle.extents.proofs.Parts.{leaf-inside}
 use Rattle.extents.proofs.Soundness.{number-iff}
 

@@ -16,7 +16,7 @@ use Rattle.hfs.specs.declared.map.Chain.{Chain}
 use Rattle.hfs.specs.Hfs.{hfs}
 use Rattle.hfs.specs.Frame.{ChainOf, Framed}
 use Rattle.hfs.proofs.Hfs.{fits}
-use Rattle.extents.specs.Inner.{Begins}
+use Rattle.walk.specs.Outcome.{Begins}
 
 module _ (img : List ℕ) (l : says (decLengths hfs img) ≡ true) (h : says (decHeaderNode hfs img 7) ≡ true) where
   lengths : Lengths hfs img

@@ -2,7 +2,7 @@
 -- Assumes nothing.
 use mathlib.Core.Path.{_≡_, refl}
 use mathlib.Core.List.{List, List·Memᴰ·not-nil}
-use Prim.Native.Nat.{ℕ, zero, suc, _+_, _*_, _≤_, _<_}
+use Prim.Native.Nat.{ℕ, zero, suc, _+_, _≤_, _<_}
 use native.Mathlib.Omega.{arith}
 use native.Mathlib.Decide.{ℕ-discrete}
 use lib.ListN.{length}
@@ -13,18 +13,9 @@ use Rattle.btree.proofs.Decisions.{cond-yes}
 use Rattle.btree.proofs.MapBits.{node-inside}
 use Rattle.hfs.specs.Hfs.{hfs}
 use Rattle.hfs.proofs.Hfs.{fits}
-use Rattle.extents.specs.Format.{leafKind, indexKind, kindOn, kindOf, recordAt, Records, view}
-use Rattle.extents.specs.Reader.{Sound, dataAt}
-use Rattle.extents.proofs.Sizes.{size-leaf, max-leaf}
-
--- record i of a leaf that is laid out right, in an image that has the node
-pub record-inside : (img : List ℕ) (n i : ℕ) → Records img leafKind n → n * 512 + 512 ≤ length img → i < countOf hfs img n → dataAt img n i + 12 ≤ length img
-unfolding recordAt
-record-inside img n i r h u =
-    let a = size-leaf (kindOf img n) (r .isKind) in
-    let b = max-leaf leafKind refl in
-    let c = r .few in
-    rw a (omega arith)
+use Rattle.formats.specs.Format.{leafKind, indexKind, kindOn, dataAt, Records, view}
+use Rattle.extents.specs.Reader.{Sound}
+use Rattle.formats.proofs.Sizes.{record-inside}
 
 -- a leaf is on the lowest level
 pub leaf-level : (img : List ℕ) (n : ℕ) → n ∈ leavesAt (view img) (view img .depth) → (h : ℕ) × (h + 1 ≡ depthOf img) × OnLevel (view img) h n

@@ -11,14 +11,17 @@ use Rattle.btree.specs.Lists.{_∈_}
 use Rattle.btree.specs.Tree.{Rec, leavesAt}
 use Rattle.btree.specs.Header.{viewOf}
 use Rattle.btree.proofs.Paths.{leaf-stands, leaf-listed, leafList-once}
-use Rattle.extents.specs.declared.key.Key.{Key}
-use Rattle.extents.specs.Key.{Lawful, packed, keyAt}
-use Rattle.extents.specs.Format.{keyOf, recordAt, view}
-use Rattle.extents.specs.Reader.{Sound, leafList, WholeLeaf, salvaged}
-use Rattle.extents.specs.Salvage.{First, Searched}
-use Rattle.extents.proofs.Order.{InRange, Bytes, key-range, packed-fork}
+use Rattle.formats.specs.declared.key.Key.{Key}
+use Rattle.formats.specs.Key.{Lawful, packed, keyAt}
+use Rattle.formats.specs.Format.{keyOf, recordAt, view}
+use Rattle.extents.specs.Reader.{Sound, leafList, salvaged}
+use Rattle.formats.specs.Whole.{WholeLeaf}
+use Rattle.search.specs.Seen.{First}
+use Rattle.extents.specs.Salvage.{Searched}
+use Rattle.formats.proofs.Order.{InRange, Bytes, key-range, packed-fork}
 use Rattle.extents.proofs.Parts.{leaf-level, leaf-records}
-use Rattle.extents.proofs.Matches.{Has, some-seen, salvage-searched}
+use Rattle.search.proofs.Matches.{Has, some-seen}
+use Rattle.extents.proofs.Matches.{salvage-searched}
 
 -- the leaves of the tree
 abbrev pub leavesOf : List ℕ → List ℕ

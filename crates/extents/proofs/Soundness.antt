@@ -9,7 +9,7 @@ use Rattle.btree.specs.Walk.{fine}
 use Rattle.btree.proofs.Soundness as theory
 use Rattle.hfs.specs.Hfs.{hfs}
 use Rattle.hfs.proofs.Hfs.{fits}
-use Rattle.extents.specs.Format.{format}
+use Rattle.formats.specs.Format.{format}
 use Rattle.extents.specs.Reader.{Sound, verdict}
 
 pub verdict-iff : (img : List ℕ) → (verdict img ≡ fine) ↔ Sound img

@@ -14,9 +14,9 @@ use Rattle.btree.specs.Lists.{_∈_, lastOr}
 use Rattle.btree.specs.Tree.{Rec}
 use Rattle.btree.specs.Header.{depthOf}
 use Rattle.btree.specs.Search.{pathOut, refused}
-use Rattle.extents.specs.declared.key.Key.{Key}
-use Rattle.extents.specs.Key.{Lawful, compared, keyAt}
-use Rattle.extents.specs.Format.{recordAt}
+use Rattle.formats.specs.declared.key.Key.{Key}
+use Rattle.formats.specs.Key.{Lawful, compared, keyAt}
+use Rattle.formats.specs.Format.{recordAt}
 use Rattle.extents.specs.Reader.{Sound, verdict, leafList, searchPath, Part}
 
 -- "A record has the asked key when the two keys compare as 0."

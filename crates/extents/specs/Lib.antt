@@ -1,6 +1,3 @@
-pub mod Key
-pub mod Format
 pub mod Reader
 pub mod Salvage
-pub mod Inner
 pub mod Demands

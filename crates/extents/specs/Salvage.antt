@@ -10,10 +10,11 @@ use Rattle.btree.specs.declared.Salvage.{Salvage}
 use Rattle.btree.specs.declared.Salvage.the-variants.{Seen, NotSeen, Refused}
 use Rattle.btree.specs.Header.{countOf}
 use Rattle.hfs.specs.Hfs.{hfs}
-use Rattle.extents.specs.declared.key.Key.{Key}
-use Rattle.extents.specs.Key.{Lawful, compared, keyAt}
-use Rattle.extents.specs.Format.{recordAt}
-use Rattle.extents.specs.Reader.{WholeLeaf}
+use Rattle.formats.specs.declared.key.Key.{Key}
+use Rattle.formats.specs.Key.{Lawful, compared, keyAt}
+use Rattle.formats.specs.Format.{recordAt}
+use Rattle.formats.specs.Whole.{WholeLeaf}
+use Rattle.search.specs.Seen.{First}
 
 -- record i of the node n is a match
 pub record Match (img : List ℕ) (k : Key) (n i : ℕ) : Type 0 where
@@ -26,12 +27,6 @@ pub record Match (img : List ℕ) (k : Key) (n i : ℕ) : Type 0 where
   pub inside : i < countOf hfs img n
   -- "A record has the asked key when the two keys compare as 0."
   pub isKey : compared (keyAt img (recordAt img n i)) k ≡ pos 0
-
--- "The first match is seen": among matches in any words, record i of the node n comes first
-pub record First (P : ℕ → ℕ → Type 0) (n i : ℕ) : Type 0 where
-  pub here : P n i
-  pub noneInNode : (j : ℕ) → j < i → P n j → ⊥
-  pub noneEarlier : (m j : ℕ) → m < n → P m j → ⊥
 
 -- "Salvage tests 11, then length": the key is lawful and the image not too long
 pub record Searched (img : List ℕ) (k : Key) : Type 0 where

@@ -2,34 +2,27 @@
 ghost use mathlib.Core.Path.{_≡_};
 ghost use mathlib.Core.Logic.{_↔_};
 ghost use Rattle.btree.specs.Search.{refused};
-ghost use Rattle.extents.specs.Reader.{Sound, verdict, asked, lookedUp, foundPart, salvaged, seenPart};
+ghost use Rattle.formats.specs.Key.{asked};
+ghost use Rattle.extents.specs.Reader.{Sound, verdict, lookedUp, foundPart, salvaged, seenPart};
 ghost use Rattle.extents.specs.Demands.{LookupSays, PartOf};
+ghost use Rattle.extents.specs.Salvage.{SalvageSays};
 use btree::Answer;
 use btree::Lookup;
 use btree::Path;
-ghost use Rattle.extents.specs.Salvage.{SalvageSays};
 use btree::Salvage;
 use btree::Verdict;
+use formats::key::is_lawful;
+use formats::key::pack;
+use formats::records::data_of;
 use hfs::header::header_right;
 use hfs::header::length_right;
 use hfs::map::map_chain;
 use hfs::map::map_tests;
 use image::part::no_part;
-use image::part::part_at;
 use image::visited::Visited;
-use key::is_lawful;
-use key::pack;
-use records::record_at;
-use search::descend;
-use seen::first_seen;
+use search::descent::descend;
+use search::scan::first_seen;
 use walk::tree_tests;
-
-pub mod key;
-pub mod place;
-pub mod records;
-pub mod search;
-pub mod seen;
-pub mod walk;
 
 // The first fault in the order of tests, number and place; 0 and 0 for a sound image.
 pub fn check(image: &[u8]) -> Verdict
@@ -101,7 +94,7 @@ pub fn lookup_part<'a>(image: &'a [u8], file: u32, fork: u8, start: u16) -> &'a 
     let found = lookup(image, file, fork, start);
     let answer = found.answer;
     match answer {
-        Answer::Found(node, i) => part_at(image, record_at(image, node, i) + 8, 12),
+        Answer::Found(node, i) => data_of(image, node, i),
         Answer::Absent(_) => no_part(image),
         Answer::Refused(_, _) => no_part(image),
     }
@@ -126,7 +119,7 @@ pub fn salvage_part<'a>(image: &'a [u8], file: u32, fork: u8, start: u16) -> &'a
     ensures { λ r. ⌜ PartOf (image .entry) r (seenPart (now (image .entry)) (salvaged (now (image .entry)) (asked file fork start))) ⌝ }
 {
     match salvage(image, file, fork, start) {
-        Salvage::Seen(node, i) => part_at(image, record_at(image, node, i) + 8, 12),
+        Salvage::Seen(node, i) => data_of(image, node, i),
         Salvage::NotSeen => no_part(image),
         Salvage::Refused(_, _) => no_part(image),
     }

@@ -12,7 +12,7 @@ use Rattle.btree.specs.Tree.{View, Rec, recordCount, leavesAt, SoundTree, LeafT
 use Rattle.btree.specs.Search.{recordsOf, leafList}
 use Rattle.btree.proofs.Leaves.{leafList-leaves}
 use Rattle.btree.specs.Header.{leafRecordsOf, viewOf}
-use Rattle.extents.specs.Format.{view}
+use Rattle.formats.specs.Format.{view}
 use Rattle.extents.specs.Reader.{Sound}
 use Rattle.hfs.proofs.Along.{along-on, along-end}
 use Rattle.listing.specs.declared.Row.{Row}

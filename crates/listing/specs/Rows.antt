@@ -7,10 +7,10 @@ use mathlib.Core.List.{List, [], _∷_}
 use Prim.Native.Nat.{ℕ, zero, suc, _+_, _≤_}
 use Rattle.image.specs.Bytes.{be16At}
 use Rattle.btree.specs.Tree.{Rec}
-use Rattle.extents.specs.declared.key.Key.{Key}
-use Rattle.extents.specs.Key.{keyAt}
-use Rattle.extents.specs.Format.{recordAt}
-use Rattle.extents.specs.Reader.{leafList, dataAt}
+use Rattle.formats.specs.declared.key.Key.{Key}
+use Rattle.formats.specs.Key.{keyAt}
+use Rattle.formats.specs.Format.{recordAt, dataAt}
+use Rattle.extents.specs.Reader.{leafList}
 use Rattle.listing.specs.declared.Row.{Row}
 use Rattle.listing.specs.declared.Row.the-variants.{Record, NoRecord}
 

@@ -4,7 +4,7 @@ ghost use lib.ListN.{length};
 ghost use Rattle.btree.specs.Header.{leafRecordsOf};
 ghost use Rattle.extents.specs.Reader.{Sound, leafList};
 ghost use Rattle.listing.specs.Rows.{leafRow, EndsAt, fieldsOf};
-use extents::records::record_at;
+use formats::records::record_at;
 use hfs::node::count_of;
 use hfs::node::forward_of;
 use image::bytes::be16;

@@ -12,9 +12,8 @@ use Rattle.btree.specs.Header.{viewOf}
 use Rattle.btree.specs.Search.{lookupOf}
 use Rattle.btree.specs.Image.{mapBytes}
 use Rattle.btree.specs.Tests.{decDescriptor, decNoTree, wrongIn, lowestWrong, bitFor, decLengths, decMapNode, decHeaderNode, chainFrom, mapTests, verdict}
-use Rattle.extents.specs.Key.{Lawful, decLawful, packed, compared}
-use Rattle.extents.specs.Format.{recordSize, maxRecords, kindOn, kindOf, recordAt, keyOf, decRecords, decNodeOn}
-use Rattle.extents.specs.Reader.{asked}
+use Rattle.formats.specs.Key.{Lawful, decLawful, packed, compared, asked}
+use Rattle.formats.specs.Format.{recordSize, maxRecords, kindOn, kindOf, recordAt, keyOf, decRecords, decNodeOn}
 use Rattle.vectors.specs.Build.{E1}
 use Rattle.vectors.specs.Bench.{Asks, All, Says, Right, bench}
 

@@ -8,9 +8,9 @@ use lib.ListN.{replicate, set}
 use Rattle.btree.specs.Walk.{fails}
 use Rattle.btree.specs.declared.Lookup.{Lookup}
 use Rattle.btree.specs.Numbers.{lookupReply}
-use Rattle.extents.specs.declared.key.Key.{Key}
-use Rattle.extents.specs.Key.{Lawful, packed, compared}
-use Rattle.extents.specs.Reader.{asked, verdict, lookedUp}
+use Rattle.formats.specs.declared.key.Key.{Key}
+use Rattle.formats.specs.Key.{Lawful, packed, compared, asked}
+use Rattle.extents.specs.Reader.{verdict, lookedUp}
 use Rattle.vectors.specs.Build.{E1, L1}
 
 -- the numbers of a reply and of the search path beside it

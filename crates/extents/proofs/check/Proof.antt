@@ -10,7 +10,7 @@ use Rattle.btree.specs.Decide.{says}
 use Rattle.btree.specs.declared.Verdict.{Verdict}
 use Rattle.btree.proofs.Ordered.{fault-1, fault-2, fault-3, fault-tree, fault-map}
 use Rattle.hfs.specs.Hfs.{hfs}
-use Rattle.extents.specs.Format.{format, view}
+use Rattle.formats.specs.Format.{format, view}
 use Rattle.extents.proofs.Soundness.{both}
 use Rattle.extents.proofs.Framing.{few, framed, begins}
 use borrow.Author.Needs.{needs}

@@ -7,9 +7,8 @@ use borrow.Author.Tests.{not-true, not-false}
 use Rattle.btree.proofs.Decisions.{said, unsaid}
 use Rattle.btree.specs.Header.{viewOf}
 use Rattle.btree.specs.declared.Verdict.{Verdict}
-use Rattle.extents.specs.Reader.{asked}
-use Rattle.extents.specs.Key.{Lawful, decLawful}
-use Rattle.extents.proofs.Order.{InRange, Bytes}
+use Rattle.formats.specs.Key.{asked, Lawful, decLawful}
+use Rattle.formats.proofs.Order.{InRange, Bytes}
 use borrow.Author.Needs.{needs}
 use Rattle.extents.proofs.lookup.Statement.{statement}
 use Rattle.extents.proofs.lookup.Tie as tie

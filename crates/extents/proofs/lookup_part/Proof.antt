@@ -3,9 +3,10 @@ use native.Mathlib.Omega.{arith}
 use mathlib.Core.Path.{_≡_, sym, ap, _∙_}
 use Rattle.btree.specs.declared.Lookup.{Lookup}
 use Rattle.btree.specs.declared.Answer.{Answer}
-use Rattle.extents.specs.Reader.{asked, lookedUp}
-use Rattle.extents.specs.declared.key.Key.{Key}
-use Rattle.extents.proofs.Order.{InRange, Bytes}
+use Rattle.formats.specs.Key.{asked}
+use Rattle.extents.specs.Reader.{lookedUp}
+use Rattle.formats.specs.declared.key.Key.{Key}
+use Rattle.formats.proofs.Order.{InRange, Bytes}
 use Rattle.extents.proofs.Demands.{found-inside}
 use borrow.Author.Needs.{needs}
 use Rattle.extents.proofs.lookup_part.Statement.{statement}
@@ -30,17 +31,11 @@ lookup-requires c κs = search needs
 enum-known-answer : tie.Need-enum-known-answer
 enum-known-answer c = search needs
 
-record-at-requires : tie.Need-record-at-requires
-record-at-requires c κs = search needs
-
-add-part-at : tie.Need-add-part-at
-add-part-at c = search needs
-
-part-at-requires : tie.Need-part-at-requires
-part-at-requires c κs = let r = c .before .before in
+data-of-requires : tie.Need-data-of-requires
+data-of-requires c κs = let r = c .before in
     let l = r .before .before in
     let s = l .before .before in
-    rw (c .record-at .ensures .0) (found-inside (s .args .image .now) (bytes (l .before)) (key s) (key-inRange s) _ _ (answers l _ (r .answer .given .1)))
+    found-inside (s .args .image .now) (bytes (l .before)) (key s) (key-inRange s) _ _ (answers l _ (r .answer .given .1))
 
 enum-told : tie.Need-enum-told
 enum-told c = search needs
@@ -55,9 +50,9 @@ no-part-requires-2 : tie.Need-no-part-requires-2
 no-part-requires-2 c κs = search needs
 
 returns : tie.Need-returns
-returns c = let r = c .before .before .before in
+returns c = let r = c .before .before in
     let l = r .before .before in
-    rw (answers l _ (r .answer .given .1)) (rw (← c .before .record-at .ensures .0) (c .part-at .ensures))
+    rw (answers l _ (r .answer .given .1)) (c .data-of .ensures)
 
 returns-2 : tie.Need-returns-2
 returns-2 c = let t = c .before in
@@ -73,9 +68,7 @@ lookup-part-spec =
     (tie.spec
     lookup-requires
     enum-known-answer
-    record-at-requires
-    add-part-at
-    part-at-requires
+    data-of-requires
     enum-told
     no-part-requires
     enum-told-2

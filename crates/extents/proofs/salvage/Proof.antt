@@ -4,8 +4,7 @@ use mathlib.Core.Path.{_≡_, sym, _∙_}
 use borrow.Author.Tests.{not-true, not-false}
 use Rattle.btree.specs.declared.Salvage.{Salvage}
 use Rattle.btree.proofs.Decisions.{said, unsaid}
-use Rattle.extents.specs.Key.{Lawful, decLawful}
-use Rattle.extents.specs.Reader.{asked}
+use Rattle.formats.specs.Key.{Lawful, decLawful, asked}
 use Rattle.extents.specs.Reader as reader
 use Rattle.extents.specs.Salvage.{SalvageSays}
 use Rattle.extents.proofs.Matches.{salvage-unlawful, salvage-long, salvage-searched, salvage-both}

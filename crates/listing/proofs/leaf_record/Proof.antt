@@ -4,7 +4,7 @@ use mathlib.Core.Logic.{inl, inr}
 use Prim.Native.Nat.{_≤_, _<_}
 use native.Mathlib.Omega.{arith}
 use Rattle.btree.specs.Header.{viewOf}
-use Rattle.extents.specs.Format.{view}
+use Rattle.formats.specs.Format.{view}
 use Rattle.listing.specs.declared.Row.the-variants.{NoRecord}
 use Rattle.listing.specs.Rows.{leafRow}
 use Rattle.listing.proofs.Rows.{rowFrom, row-inside, row-on, row-none, row-told}

@@ -1,0 +1,46 @@
+-- The sizes of records, how many a node holds, by its kind, and that they lie in the image.
+-- Assumes nothing.
+use mathlib.Core.Path.{_≡_, refl}
+use mathlib.Core.Logic.{_≢_}
+use mathlib.Core.List.{List}
+use Prim.Native.Nat.{ℕ, _+_, _*_, _≤_, _<_}
+use native.Mathlib.Nat.{suc-mul}
+use native.Mathlib.Numerals.{add-one}
+use native.Mathlib.Omega.{arith}
+use native.Mathlib.Decide.{ℕ-discrete}
+use lib.ListN.{length}
+use Rattle.btree.specs.Header.{countOf}
+use Rattle.hfs.specs.Hfs.{hfs}
+use Rattle.btree.proofs.Decisions.{cond-yes, cond-no}
+use Rattle.formats.specs.Format.{leafKind, recordSize, maxRecords, kindOf, recordAt, dataAt, Records}
+
+module _ (kind : ℕ) where
+  pub size-leaf : kind ≡ leafKind → recordSize kind ≡ 20
+  unfolding recordSize
+  size-leaf e = cond-yes (ℕ-discrete kind leafKind) 20 12 e
+
+  pub size-index : kind ≢ leafKind → recordSize kind ≡ 12
+  unfolding recordSize
+  size-index e = cond-no (ℕ-discrete kind leafKind) 20 12 e
+
+  pub max-leaf : kind ≡ leafKind → maxRecords kind ≡ 22
+  unfolding maxRecords
+  max-leaf e = cond-yes (ℕ-discrete kind leafKind) 22 35 e
+
+  pub max-index : kind ≢ leafKind → maxRecords kind ≡ 35
+  unfolding maxRecords
+  max-index e = cond-no (ℕ-discrete kind leafKind) 22 35 e
+
+-- from one record to the next
+pub record-next : (img : List ℕ) (n i : ℕ) → recordAt img n (i + 1) ≡ recordAt img n i + recordSize (kindOf img n)
+unfolding recordAt
+record-next img n i = let e = suc-mul i (recordSize (kindOf img n)) in rw (add-one i) (omega arith)
+
+-- record i of a leaf that is laid out right, in an image that has the node
+pub record-inside : (img : List ℕ) (n i : ℕ) → Records img leafKind n → n * 512 + 512 ≤ length img → i < countOf hfs img n → dataAt img n i + 12 ≤ length img
+unfolding recordAt
+record-inside img n i r h u =
+    let a = size-leaf (kindOf img n) (r .isKind) in
+    let b = max-leaf leafKind refl in
+    let c = r .few in
+    rw a (omega arith)

@@ -1,0 +1,26 @@
+-- A leaf that is whole by itself: its records are right and its keys strictly ascend.
+-- Assumes nothing.
+use mathlib.Core.Path.{_≡_}
+use mathlib.Core.Bool.{true, false}
+use mathlib.Core.List.{List}
+use Prim.Native.Nat.{ℕ}
+use native.Mathlib.Omega.{arith}
+use Rattle.btree.specs.Decide.{says}
+use Rattle.btree.specs.Header.{viewOf}
+use Rattle.btree.specs.Walk.{decOrdered}
+use Rattle.btree.proofs.Decisions.{says-no, says-same, said, unsaid}
+use Rattle.formats.specs.Format.{leafKind, decRecords, view}
+use Rattle.formats.specs.Whole.{decWholeLeaf}
+use Rattle.formats.specs.Bound.{bound}
+
+module _ (img : List ℕ) (n : ℕ) where
+  pub whole-records : says (decRecords img leafKind n) ≡ false → says (decWholeLeaf img n) ≡ false
+  whole-records e = says-no (decWholeLeaf img n) (λ w. unsaid (decRecords img leafKind n) e (w .records))
+
+  -- no bound but 2 ^ 56, which is none
+  pub whole-says : says (decRecords img leafKind n) ≡ true → says (decOrdered (view img) 0 (bound 72057594037927936) n) ≡ says (decWholeLeaf img n)
+  unfolding viewOf bound
+  whole-says e =
+      says-same (decOrdered (view img) 0 (bound 72057594037927936) n) (decWholeLeaf img n)
+      (λ o. record { records = said (decRecords img leafKind n) e; ascend = o .rise })
+      (λ w. record { rise = w .ascend; within = λ i u. (omega arith, tt) })

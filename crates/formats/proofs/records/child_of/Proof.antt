@@ -1,0 +1,21 @@
+-- `records::child_of` meets its contract. Assumes nothing.
+use Rattle.btree.specs.Header.{viewOf}
+use borrow.Author.Needs.{needs}
+use Rattle.formats.proofs.records.child_of.Statement.{statement}
+use Rattle.formats.proofs.records.child_of.Tie as tie
+
+record-at-requires : tie.Need-record-at-requires
+record-at-requires c κs = search needs
+
+add-be32 : tie.Need-add-be32
+add-be32 c = search needs
+
+be32-requires : tie.Need-be32-requires
+be32-requires c κs = search needs
+
+returns : tie.Need-returns
+unfolding viewOf
+returns c = rw (← c .before .record-at .ensures .0) (c .be32 .ensures)
+
+pub child-of-spec : {M : Type 1} → statement M
+child-of-spec = tie.close (tie.spec record-at-requires add-be32 be32-requires returns)

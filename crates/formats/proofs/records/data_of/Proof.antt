@@ -1,0 +1,19 @@
+-- `records::data_of` meets its contract. Assumes nothing.
+use borrow.Author.Needs.{needs}
+use Rattle.formats.proofs.records.data_of.Statement.{statement}
+use Rattle.formats.proofs.records.data_of.Tie as tie
+
+record-at-requires : tie.Need-record-at-requires
+record-at-requires c κs = search needs
+
+add-part-at : tie.Need-add-part-at
+add-part-at c = search needs
+
+part-at-requires : tie.Need-part-at-requires
+part-at-requires c κs = search needs
+
+returns : tie.Need-returns
+returns c = rw (← c .before .record-at .ensures .0) (c .part-at .ensures)
+
+pub data-of-spec : {M : Type 1} → statement M
+data-of-spec = tie.close (tie.spec record-at-requires add-part-at part-at-requires returns)

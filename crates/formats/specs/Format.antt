@@ -1,0 +1,99 @@
+-- The format of an extents overflow file: its sizes, its nodes and what they say.
+-- Assumes nothing.
+use mathlib.Core.Path.{_≡_}
+use mathlib.Core.Logic.{Dec·and}
+use mathlib.Core.List.{List}
+use Prim.Native.Nat.{ℕ, suc, _+_, _-_, _*_, _≤_, _<_}
+use native.Mathlib.Decide.{ℕ-discrete, decLe}
+use lib.ListN.{getD}
+use Rattle.image.specs.Bytes.{be16At, be32At}
+use Rattle.btree.specs.Decide.{cond, map-dec, decAll}
+use Rattle.btree.specs.Tree.{View}
+use Rattle.btree.specs.Header.{Format, depthOf, countOf, viewOf}
+use Rattle.hfs.specs.Hfs.{hfs}
+use Rattle.formats.specs.Key.{Lawful, decLawful, packed, keyAt}
+
+-- "Kinds: 00 index, 01 header, 02 map, FF leaf."
+abbrev pub leafKind : ℕ
+leafKind = 255
+
+abbrev pub indexKind : ℕ
+indexKind = 0
+
+-- "Leaf record: key and 12 bytes .. Index record: key and a child's node number (4)."
+unfoldable pub recordSize : ℕ → ℕ
+recordSize kind = cond (ℕ-discrete kind leafKind) 20 12
+
+-- "a leaf holds 1 to 22 and an index node 1 to 35"
+unfoldable pub maxRecords : ℕ → ℕ
+maxRecords kind = cond (ℕ-discrete kind leafKind) 22 35
+
+-- "Leaves are exactly the nodes whose level is the depth."
+unfoldable pub kindOn : ℕ → ℕ → ℕ
+kindOn depth d = cond (ℕ-discrete (d + 1) depth) leafKind indexKind
+
+module _ (img : List ℕ) where
+  unfoldable pub kindOf : ℕ → ℕ
+  kindOf n = getD img (n * 512 + 8) 0
+
+  -- "Records lie side by side from 0E"
+  unfoldable pub recordAt : ℕ → ℕ → ℕ
+  recordAt n i = n * 512 + (14 + i * recordSize (kindOf n))
+
+  -- where the data of record i of the leaf n starts: "key and 12 bytes"
+  abbrev pub dataAt : ℕ → ℕ → ℕ
+  dataAt n i = recordAt n i + 8
+
+  unfoldable pub keyOf : ℕ → ℕ → ℕ
+  keyOf n i = packed (keyAt img (recordAt n i))
+
+  -- the records of a node of this kind, whatever its level and its links
+  pub record Records (kind n : ℕ) : Type 0 where
+    pub isKind : kindOf n ≡ kind
+    -- "reserved (2, zero)"
+    pub reserved : be16At img (n * 512 + 12) ≡ 0
+    pub some : 1 ≤ countOf hfs img n
+    pub few : countOf hfs img n ≤ maxRecords kind
+    -- "Record offsets are words from the end of the node backwards"; "There is one offset more than records, and it points to the free space."
+    pub offsets : (i : ℕ) → i < suc (countOf hfs img n) → be16At img (n * 512 + (510 - 2 * i)) ≡ 14 + i * recordSize kind
+    -- a key has "length 07, fork (00 data, FF resource)"
+    pub lengths : (i : ℕ) → i < countOf hfs img n → getD img (recordAt n i) 0 ≡ 7
+    pub forks : (i : ℕ) → i < countOf hfs img n → Lawful (getD img (recordAt n i + 1) 0)
+
+  -- a node on level d, counted from 0, of a tree of this depth: "the root 1, each child one more than its parent"
+  pub record NodeOn (depth n d : ℕ) : Type 0 where
+    pub level : getD img (n * 512 + 9) 0 ≡ d + 1
+    pub records : Records (kindOn depth d) n
+
+  unfoldable pub decRecords : (kind n : ℕ) → Dec (Records kind n)
+  decRecords kind n =
+      map-dec
+      (λ ((((((a, b), c), d), e), f), g). record { isKind = a; reserved = b; some = c; few = d; offsets = e; lengths = f; forks = g })
+      (λ r. ((((((r .isKind, r .reserved), r .some), r .few), r .offsets), r .lengths), r .forks))
+      (Dec·and (Dec·and (Dec·and (Dec·and (Dec·and (Dec·and
+      (ℕ-discrete (kindOf n) kind)
+      (ℕ-discrete (be16At img (n * 512 + 12)) 0))
+      (decLe 1 (countOf hfs img n)))
+      (decLe (countOf hfs img n) (maxRecords kind)))
+      (decAll (λ i. ℕ-discrete (be16At img (n * 512 + (510 - 2 * i))) (14 + i * recordSize kind)) (suc (countOf hfs img n))))
+      (decAll (λ i. ℕ-discrete (getD img (recordAt n i) 0) 7) (countOf hfs img n)))
+      (decAll (λ i. decLawful (getD img (recordAt n i + 1) 0)) (countOf hfs img n)))
+
+  unfoldable pub decNodeOn : (depth n d : ℕ) → Dec (NodeOn depth n d)
+  decNodeOn depth n d =
+      map-dec (λ (a, b). record { level = a; records = b }) (λ r. (r .level, r .records))
+      (Dec·and (ℕ-discrete (getD img (n * 512 + 9) 0) (d + 1)) (decRecords (kindOn depth d) n))
+
+abbrev pub format : Format
+format =
+    record {
+      -- "key length is 7"
+      keyLength = 7;
+      key = keyOf;
+      child = λ img n i. be32At img (recordAt img n i + 8);
+      WellFormed = λ img n d. NodeOn img (depthOf img) n d;
+      decWellFormed = λ img n d. decNodeOn img (depthOf img) n d;
+    }
+
+abbrev pub view : List ℕ → View
+view img = viewOf hfs format img

@@ -1,0 +1,39 @@
+-- The key of an extents record, its packed number and its order.
+-- Assumes nothing.
+use mathlib.Core.Path.{_≡_}
+use mathlib.Core.Logic.{_⊎_}
+use mathlib.Core.List.{List}
+use Prim.Native.Nat.{ℕ, _+_, _*_}
+use native.Mathlib.Decide.{ℕ-discrete, decLt}
+use lib.IntN.{ℤ, pos, negsuc}
+use lib.ListN.{getD}
+use Rattle.image.specs.Bytes.{be16At, be32At}
+use Rattle.btree.specs.Decide.{cond, decOr}
+use Rattle.formats.specs.declared.key.Key.{Key}
+
+-- "The fork bytes 00 and FF are lawful."
+abbrev pub Lawful : ℕ → Type 0
+Lawful fork = (fork ≡ 0) ⊎ (fork ≡ 255)
+
+unfoldable pub decLawful : (fork : ℕ) → Dec (Lawful fork)
+decLawful fork = decOr (ℕ-discrete fork 0) (ℕ-discrete fork 255)
+
+-- "Packed, a key is file number x 16,777,216 + fork x 65,536 + start block"
+unfoldable pub packed : Key → ℕ
+packed k = k .file * 16777216 + k .fork * 65536 + k .start
+
+-- -1 where a is below b, 1 where it is above, and else the next answer
+abbrev pub ranked : ℕ → ℕ → ℤ → ℤ
+ranked a b next = cond (decLt a b) (negsuc 0) (cond (decLt b a) (pos 1) next)
+
+-- "Order: file number, then fork as an unsigned byte, then start block. A comparison answers .. -1, 0 or 1."
+unfoldable pub compared : Key → Key → ℤ
+compared a b = ranked (a .file) (b .file) (ranked (a .fork) (b .fork) (ranked (a .start) (b .start) (pos 0)))
+
+-- "Eight bytes: length 07, fork (00 data, FF resource), file number (4), start block (2)."
+abbrev pub keyAt : List ℕ → ℕ → Key
+keyAt img at = record { file = be32At img (at + 2); fork = getD img (at + 1) 0; start = be16At img (at + 6) }
+
+-- "Lookup and salvage are asked by three numbers: file number, fork byte and start block; no length byte is given."
+abbrev pub asked : ℕ → ℕ → ℕ → Key
+asked file fork start = record { file = file; fork = fork; start = start }

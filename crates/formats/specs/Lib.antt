@@ -1,0 +1,5 @@
+pub mod Key
+pub mod Format
+pub mod Whole
+pub mod Tells
+pub mod Bound

@@ -1,0 +1,4 @@
+pub mod Finding
+pub mod Stored
+pub mod Looking
+pub mod Matches

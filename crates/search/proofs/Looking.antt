@@ -1,0 +1,67 @@
+-- The search for a key as the code makes it: record after record of a node, node after node of an image.
+-- Assumes nothing.
+use mathlib.Core.Path.{_≡_, refl, ap}
+use mathlib.Core.Logic.{_≢_}
+use mathlib.Core.Bool.{true, false}
+use mathlib.Core.Option.{Option, none, some}
+use mathlib.Core.List.{List}
+use Prim.Native.Nat.{ℕ, _+_, _-_, _<_, _≤_}
+use native.Mathlib.Omega.{arith}
+use native.Mathlib.Decide.{ℕ-discrete}
+use native.Mathlib.Numerals.{add-one}
+use Rattle.btree.specs.declared.Salvage.the-variants.{Seen, NotSeen}
+use Rattle.btree.specs.Decide.{says}
+use Rattle.btree.specs.Tree.{View}
+use Rattle.btree.specs.Header.{viewOf}
+use Rattle.btree.specs.Search.{recordWith}
+use Rattle.btree.proofs.Decisions.{cond-yes, cond-no, said, unsaid}
+use Rattle.search.specs.declared.place.Place.the-variants.{At, Nowhere}
+use Rattle.formats.specs.Format.{view}
+use Rattle.formats.specs.Whole.{decWholeLeaf}
+use Rattle.search.specs.Seen.{seenIn, seenFrom}
+use Rattle.search.specs.Place.{placeOf}
+use Rattle.btree.proofs.Left.{one-more, none-left}
+
+-- what the code's answer says of the search
+pub place-at : (o : Option ℕ) (i : ℕ) → placeOf o ≡ At i → o ≡ some i
+place-at none i e = absurd (let z : _≡_ {A = ℕ} 0 1 = cc in omega arith)
+place-at (some j) i e = let z : j ≡ i = cc in ap some z
+
+pub place-nowhere : (o : Option ℕ) → placeOf o ≡ Nowhere → o ≡ none
+place-nowhere none e = refl
+place-nowhere (some j) e = absurd (let z : _≡_ {A = ℕ} 0 1 = cc in omega arith)
+
+-- the records of a node from i on
+module _ (v : View) (n k c i : ℕ) where
+  pub with-end : c ≤ i → recordWith v n k i (c - i) ≡ none
+  with-end h = rw (none-left c i h)
+
+  pub with-here : i < c → v .key n i ≡ k → recordWith v n k i (c - i) ≡ some i
+  with-here h e = rw (one-more c i h) (cond-yes (ℕ-discrete (v .key n i) k) _ _ e)
+
+  pub with-on : i < c → v .key n i ≢ k → recordWith v n k i (c - i) ≡ recordWith v n k (i + 1) (c - (i + 1))
+  with-on h e = rw (one-more c i h, add-one i) (cond-no (ℕ-discrete (v .key n i) k) _ _ e)
+
+-- a node, by whether it counts
+module _ (img : List ℕ) (k n : ℕ) where
+  pub seen-not : says (decWholeLeaf img n) ≡ false → seenIn img k n ≡ none
+  unfolding seenIn
+  seen-not e = cond-no (decWholeLeaf img n) _ _ (unsaid (decWholeLeaf img n) e)
+
+  pub seen-whole : says (decWholeLeaf img n) ≡ true → seenIn img k n ≡ recordWith (view img) n k 0 (view img .count n)
+  unfolding seenIn viewOf
+  seen-whole e = cond-yes (decWholeLeaf img n) _ _ (said (decWholeLeaf img n) e)
+
+-- the nodes of an image from n on
+module _ (img : List ℕ) (k total n : ℕ) where
+  pub seen-end : total ≤ n → seenFrom img k n (total - n) ≡ NotSeen
+  unfolding seenFrom
+  seen-end h = rw (none-left total n h)
+
+  pub seen-here : (i : ℕ) → n < total → seenIn img k n ≡ some i → seenFrom img k n (total - n) ≡ Seen n i
+  unfolding seenFrom
+  seen-here i h e = rw (one-more total n h, e)
+
+  pub seen-on : n < total → seenIn img k n ≡ none → seenFrom img k n (total - n) ≡ seenFrom img k (n + 1) (total - (n + 1))
+  unfolding seenFrom
+  seen-on h e = rw (one-more total n h, e, add-one n)

@@ -1,0 +1,66 @@
+-- `scan::first_seen` meets its contract: the nodes that are left give what all give. Assumes nothing.
+use Prim.Native.Nat.{_-_, _/_, _≤_}
+use mathlib.Core.Path.{_≡_, refl, sym, _∙_}
+use lib.ListN.{length}
+use Rattle.search.specs.Seen.{seenFrom}
+use Rattle.search.proofs.Looking.{place-at, place-nowhere, seen-end, seen-here, seen-on}
+use borrow.Author.Needs.{needs}
+use Rattle.search.proofs.scan.first_seen.Statement.{statement}
+use Rattle.search.proofs.scan.first_seen.Tie as tie
+
+abbrev Inv-loop : tie.InvT-loop
+Inv-loop image k total node₀ node = (total ≤ 6000) × (1 ≤ node) × (seenFrom image k 1 (length image / 512 - 1) ≡ seenFrom image k node (total - node))
+
+abbrev μ-loop : tie.MeasureT-loop
+μ-loop image k total node₀ node = total - node
+
+cast-total : tie.Need-cast-total Inv-loop μ-loop
+cast-total c = search needs
+
+loop-holds : tie.Need-loop-holds Inv-loop μ-loop
+loop-holds c = (search needs, search needs, refl)
+
+seen-in-requires : tie.Need-seen-in-requires Inv-loop μ-loop
+seen-in-requires c κs = search needs
+
+enum-known-i : tie.Need-enum-known-i Inv-loop μ-loop
+enum-known-i c = search needs
+
+returns : tie.Need-returns Inv-loop μ-loop
+returns c =
+    let s = c .before .before .before in
+    sym (s .before .before .loop .inv .2 ∙ seen-here _ _ _ _ _ (s .before .loop-test .taken) (place-at _ _ (sym (s .seen-in .ensures) ∙ c .before .i .given .1)))
+
+enum-told : tie.Need-enum-told Inv-loop μ-loop
+enum-told c = search needs
+
+add-node : tie.Need-add-node Inv-loop μ-loop
+add-node c = search needs
+
+loop-less : tie.Need-loop-less Inv-loop μ-loop
+loop-less c = search needs
+
+loop-again : tie.Need-loop-again Inv-loop μ-loop
+loop-again c =
+    let s = c .before .before in
+    (search needs, search needs, s .before .before .loop .inv .2 ∙ seen-on _ _ _ _ (s .before .loop-test .taken) (place-nowhere _ (sym (s .seen-in .ensures) ∙ c .enum-told .given .1)))
+
+returns-2 : tie.Need-returns-2 Inv-loop μ-loop
+returns-2 c = sym (c .before .loop .inv .2 ∙ seen-end _ _ _ _ (c .loop-test .left))
+
+pub first-seen-spec : {M : Type 1} → statement M
+first-seen-spec =
+    tie.close
+    (tie.spec
+    Inv-loop
+    μ-loop
+    cast-total
+    loop-holds
+    seen-in-requires
+    enum-known-i
+    returns
+    enum-told
+    add-node
+    loop-less
+    loop-again
+    returns-2)

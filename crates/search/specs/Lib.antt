@@ -1,0 +1,4 @@
+pub mod Place
+pub mod Highest
+pub mod Descent
+pub mod Seen

@@ -1,0 +1,32 @@
+-- What salvage sees in a node, in the nodes of an image one after another, and what comes first.
+-- Assumes nothing.
+use mathlib.Core.Option.{Option, none, some}
+use mathlib.Core.List.{List}
+use Prim.Native.Nat.{ℕ, zero, suc, _<_}
+use Rattle.btree.specs.declared.Salvage.{Salvage}
+use Rattle.btree.specs.declared.Salvage.the-variants.{Seen, NotSeen}
+use Rattle.btree.specs.Decide.{cond}
+use Rattle.btree.specs.Header.{countOf}
+use Rattle.btree.specs.Search.{recordWith}
+use Rattle.hfs.specs.Hfs.{hfs}
+use Rattle.formats.specs.Format.{view}
+use Rattle.formats.specs.Whole.{decWholeLeaf}
+
+-- the record of the node n that has the key k, if the node counts
+unfoldable pub seenIn : List ℕ → ℕ → ℕ → Option ℕ
+seenIn img k n = cond (decWholeLeaf img n) (recordWith (view img) n k 0 (countOf hfs img n)) none
+
+abbrev pub seenOr : ℕ → Option ℕ → Salvage → Salvage
+seenOr n none r = r
+seenOr n (some i) r = Seen n i
+
+-- the first node from n on, of as many as are left, that counts and has the key k: "The first match is seen"
+unfoldable pub seenFrom : List ℕ → ℕ → ℕ → ℕ → Salvage
+seenFrom img k n zero = NotSeen
+seenFrom img k n (suc left) = seenOr n (seenIn img k n) (seenFrom img k (suc n) left)
+
+-- "The first match is seen": among matches in any words, record i of the node n comes first
+pub record First (P : ℕ → ℕ → Type 0) (n i : ℕ) : Type 0 where
+  pub here : P n i
+  pub noneInNode : (j : ℕ) → j < i → P n j → ⊥
+  pub noneEarlier : (m j : ℕ) → m < n → P m j → ⊥

@@ -1,0 +1,4 @@
+pub mod Fresh
+pub mod Links
+pub mod Room
+pub mod Lands

@@ -1,0 +1,55 @@
+-- What the walk of a tree keeps, and a step of it.
+-- Assumes nothing.
+use mathlib.Core.Bool.{Bool, false}
+use mathlib.Core.List.{List}
+use Prim.Native.Nat.{ℕ, _+_}
+use lib.Dec.{eqb, ltb}
+use lib.ListN.{getD, set}
+use Rattle.image.specs.Bit.{bitOf}
+use Rattle.image.specs.Set.{withBit}
+use Rattle.btree.specs.declared.Verdict.{Verdict}
+use Rattle.btree.specs.Decide.{ifZero}
+use Rattle.btree.specs.Tree.{View}
+use Rattle.btree.specs.Walk.{Entry, firstOr, test}
+use Rattle.formats.specs.Tells.{pick}
+use Rattle.formats.specs.Bound.{bound}
+use Rattle.step.specs.declared.state.Walk.{Walk}
+
+-- a node as the code comes to it
+abbrev pub entry : ℕ → ℕ → ℕ → ℕ → ℕ → Entry
+entry n parent d low high = record { node = n; parent = parent; level = d; low = low; high = bound high }
+
+-- test 4: the bits set are those of the header, the map chain and the nodes met
+unfoldable pub freshIn : ℕ → List ℕ → ℕ → Bool
+freshIn total bits n = pick (ltb n total) (eqb (bitOf bits n) 0) false
+
+unfoldable pub stopped : Walk → Verdict → Walk
+stopped w t =
+    record { visited = w .visited; last = w .last; records = w .records; first = w .first; nodes = w .nodes; number = t .number; place = t .place }
+
+-- the first leaf met, 0 for none
+unfoldable pub firstWith : Bool → ℕ → ℕ → ℕ
+firstWith leaf first n = pick leaf (firstOr first n) first
+
+-- a node that passed: c are its records, counted for a leaf
+unfoldable pub kept : Walk → ℕ → ℕ → Bool → ℕ → Walk
+kept w n d leaf c =
+    record {
+      visited = withBit (w .visited) n;
+      last = set (w .last) d n;
+      records = w .records + pick leaf c 0;
+      first = firstWith leaf (w .first) n;
+      nodes = w .nodes + 1;
+      number = w .number;
+      place = w .place;
+    }
+
+unfoldable pub landed : View → Walk → Entry → Verdict → Walk
+landed v w e t = ifZero (t .number) (kept w (e .node) (e .level) (eqb (e .level + 1) (v .depth)) (v .count (e .node))) (stopped w t)
+
+abbrev pub lastAt : Walk → ℕ → ℕ
+lastAt w d = getD (w .last) d 0
+
+-- the tests at an entry, and what is kept of it; a state with a fault stays
+unfoldable pub step : View → Walk → Entry → Walk
+step v w e = ifZero (w .number) (landed v w e (test v (freshIn (v .total) (w .visited) (e .node)) (lastAt w (e .level)) e)) w

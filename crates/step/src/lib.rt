@@ -1,0 +1,38 @@
+// One step of the walk of a tree: tests 4 to 7 at a node, and what is kept of one that passes.
+ghost use Rattle.formats.specs.Format.{view};
+ghost use Rattle.step.specs.State.{step, entry};
+ghost use Rattle.step.specs.Ready.{Ready, Gives};
+use hfs::node::count_of;
+use image::bytes::be32;
+use node::is_fresh;
+use node::tested;
+use state::Walk;
+use state::kept_at;
+use state::stopped_at;
+
+pub mod node;
+pub mod state;
+
+// The state with the node kept, or with the first fault at it.
+pub fn stepped(
+    image: &[u8],
+    w: Walk,
+    node: u32,
+    parent: u32,
+    level: u32,
+    below: u32,
+    low: u64,
+    high: u64,
+) -> Walk
+    requires { ⌜ Ready (now image) level below w ⌝ }
+    ensures { λ r. ⌜ Gives r (step (view (now (image .entry))) w (entry node parent level low high)) ⌝ }
+{
+    let fresh = is_fresh(&w.visited, be32(image, 36), node);
+    let p = w.last[level as usize];
+    let t = tested(image, fresh, p, node, parent, level, low, high);
+    if t.number != 0 {
+        return stopped_at(w, t);
+    }
+    let c = count_of(image, node);
+    kept_at(w, node, level, below == 0, c)
+}

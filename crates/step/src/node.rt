@@ -1,0 +1,83 @@
+// The tests at a node of the tree: 4, 5, 6, 7.
+ghost use mathlib.Core.Path.{_≡_};
+ghost use Prim.Native.Nat.{_<_};
+ghost use Rattle.btree.specs.Decide.{says};
+ghost use Rattle.btree.specs.Walk.{decLeads, test};
+ghost use Rattle.formats.specs.Format.{view};
+ghost use Rattle.step.specs.State.{freshIn, entry};
+use btree::Verdict;
+use formats::node::keys_ordered;
+use formats::node::node_right;
+use hfs::node::back_of;
+use hfs::node::forward_of;
+use image::bytes::bit_at;
+
+// Test 4.
+pub fn is_fresh(visited: &[u8], total: u32, node: u32) -> bool
+    ensures { λ r. ⌜ r ≡ freshIn total (now (visited .entry)) node ⌝ }
+{
+    if node >= total {
+        return false;
+    }
+    bit_at(visited, node as usize) == 0
+}
+
+// Whether the node p, where it is one, has the forward link `node`.
+pub fn leads(image: &[u8], p: u32, node: u32) -> bool
+    ensures { λ r. ⌜ r ≡ says (decLeads (view (now (image .entry))) p node) ⌝ }
+{
+    if p == 0 {
+        return true;
+    }
+    forward_of(image, p) == node
+}
+
+// The tests at a node: 4, 5, 6, 7. Of the walk they need whether the node is fresh, and the node met before it on its level.
+pub fn tested(
+    image: &[u8],
+    fresh: bool,
+    p: u32,
+    node: u32,
+    parent: u32,
+    level: u32,
+    low: u64,
+    high: u64,
+) -> Verdict
+    requires { ⌜ level < 8 ⌝ }
+    ensures { λ r. ⌜ r ≡ test (view (now (image .entry))) fresh p (entry node parent level low high) ⌝ }
+{
+    if !fresh {
+        return Verdict {
+            number: 4,
+            place: parent,
+        };
+    }
+    if !node_right(image, node, level) {
+        return Verdict {
+            number: 5,
+            place: node,
+        };
+    }
+    if !keys_ordered(image, node, low, high) {
+        return Verdict {
+            number: 6,
+            place: node,
+        };
+    }
+    if back_of(image, node) != p {
+        return Verdict {
+            number: 7,
+            place: node,
+        };
+    }
+    if !leads(image, p, node) {
+        return Verdict {
+            number: 7,
+            place: p,
+        };
+    }
+    Verdict {
+        number: 0,
+        place: 0,
+    }
+}

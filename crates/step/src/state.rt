@@ -1,0 +1,73 @@
+// What the walk of the tree keeps, and what a node adds to it.
+ghost use mathlib.Core.Path.{_≡_};
+ghost use Prim.Native.Nat.{_<_, _≤_};
+ghost use Rattle.formats.specs.Tells.{pick};
+ghost use Rattle.step.specs.State.{stopped, firstWith, kept, lastAt};
+ghost use Rattle.step.specs.Room.{Keepable};
+use btree::Verdict;
+
+// The nodes met, with the header and the map chain, and what the tests at the end ask of them.
+pub struct Walk {
+    pub visited: [u8; 750],
+    // The last node met on each level, 0 for none.
+    pub last: [u32; 8],
+    // The leaves' records, and the first leaf.
+    pub records: u32,
+    pub first: u32,
+    // How many nodes are marked in `visited`.
+    pub nodes: u32,
+    // The first fault, 0 for none.
+    pub number: u32,
+    pub place: u32,
+}
+
+pub fn last_on(w: Walk, level: u32) -> u32
+    requires { ⌜ level < 8 ⌝ }
+    ensures { λ r. ⌜ r ≡ lastAt w level ⌝ }
+{
+    w.last[level as usize]
+}
+
+pub fn stopped_at(w: Walk, t: Verdict) -> Walk
+    ensures { λ r. ⌜ r ≡ stopped w t ⌝ }
+{
+    let mut x = w;
+    x.number = t.number;
+    x.place = t.place;
+    x
+}
+
+fn first_with(leaf: bool, first: u32, node: u32) -> u32
+    ensures { λ r. ⌜ r ≡ firstWith leaf first node ⌝ }
+{
+    if leaf {
+        if first == 0 {
+            return node;
+        }
+    }
+    first
+}
+
+fn counted(leaf: bool, c: u32) -> u32
+    ensures { λ r. ⌜ (r ≡ pick leaf c 0) × (r ≤ c) ⌝ }
+{
+    if leaf { c } else { 0 }
+}
+
+// A node that passed its tests.
+pub fn kept_at(w: Walk, node: u32, level: u32, leaf: bool, c: u32) -> Walk
+    requires { ⌜ Keepable w node level c ⌝ }
+    ensures { λ r. ⌜ r ≡ kept w node level leaf c ⌝ }
+{
+    let first = first_with(leaf, w.first, node);
+    let more = counted(leaf, c);
+    let n = node as usize;
+    let mut x = w;
+    // In place: marking by a call would copy the bitmap twice for every node.
+    x.visited[n / 8] = x.visited[n / 8] | (128 >> (n % 8));
+    x.last[level as usize] = node;
+    x.records = x.records + more;
+    x.first = first;
+    x.nodes = x.nodes + 1;
+    x
+}

@@ -1,0 +1,56 @@
+-- The steps along the entries below a node, in the code's terms: from record i to i + 1, of c.
+-- Assumes nothing.
+use mathlib.Core.Path.{_≡_, refl, ap, _∙_}
+use mathlib.Core.Option.{Option}
+use mathlib.Core.List.{List, [], _∷_, _++_}
+use Prim.Native.Nat.{ℕ, suc, _+_, _-_, _<_, _≤_}
+use native.Mathlib.Omega.{arith}
+use native.Mathlib.Numerals.{add-one}
+use Rattle.btree.specs.Lists.{span}
+use Rattle.btree.specs.Tree.{View}
+use Rattle.btree.specs.Walk.{Entry, above, entries}
+use Rattle.btree.proofs.Left.{one-more, none-left}
+use Rattle.step.specs.declared.state.Walk.{Walk}
+use Rattle.walk.specs.declared.visit.Pointer.{Pointer}
+use Rattle.formats.specs.Bound.{bound}
+use Rattle.step.specs.State.{step}
+use Rattle.step.proofs.Lands.{step-stuck}
+use Rattle.walk.specs.Visit.{steps, Points}
+
+module _ (v : View) where
+  pub steps-append : (w : Walk) (xs ys : List Entry) → steps v w (xs ++ ys) ≡ steps v (steps v w xs) ys
+  unfolding steps
+  steps-append w [] ys = refl
+  steps-append w (x ∷ xs) ys = steps-append (step v w x) xs ys
+
+  pub steps-stuck : (w : Walk) (es : List Entry) → (w .number ≡ 0 → ⊥) → steps v w es ≡ w
+  unfolding steps
+  steps-stuck w [] h = refl
+  steps-stuck w (x ∷ es) h = rw (step-stuck v w x h) (steps-stuck w es h)
+
+  -- the entries below record i of the node n, on level d, with h levels below the records' children
+  abbrev pub kid : ℕ → ℕ → Option ℕ → ℕ → ℕ → List Entry
+  kid h d hi n i = entries v h (suc d) n (v .key n i) (above v n i hi) (v .child n i)
+
+  module _ (w : Walk) (b d pa lo n : ℕ) (hi : Option ℕ) where
+    pub steps-leaf : b ≡ 0 → steps v w (entries v b d pa lo hi n) ≡ step v w (record { node = n; parent = pa; level = d; low = lo; high = hi })
+    unfolding steps
+    steps-leaf e = rw e
+
+    pub steps-index : (b ≡ 0 → ⊥)
+        → steps v w (entries v b d pa lo hi n)
+        ≡ steps v (step v w (record { node = n; parent = pa; level = d; low = lo; high = hi })) (span 0 (v .count n) (kid (b - 1) d hi n))
+    unfolding steps
+    steps-index h = let e : b ≡ suc (b - 1) = omega arith in ap (λ (k : ℕ). steps v w (entries v k d pa lo hi n)) e
+
+  pub kids-end : (f : ℕ → List Entry) (w : Walk) (c i : ℕ) → c ≤ i → steps v w (span i (c - i) f) ≡ w
+  unfolding steps
+  kids-end f w c i h = rw (none-left c i h)
+
+  pub kids-on : (h d n high : ℕ) (w r : Walk) (c i : ℕ) (p : Pointer) → i < c → Points v n i high p
+      → r ≡ steps v w (entries v h (d + 1) n (p .low) (bound (p .high)) (p .child))
+      → steps v w (span i (c - i) (kid h d (bound high) n)) ≡ steps v r (span (i + 1) (c - (i + 1)) (kid h d (bound high) n))
+  kids-on h d n high w r c i p l q e =
+      ap (λ (k : ℕ). steps v w (span i k (kid h d (bound high) n))) (one-more c i l)
+      ∙ steps-append w (kid h d (bound high) n i) (span (suc i) (c - (i + 1)) (kid h d (bound high) n))
+      ∙ rw (e, q .child, q .low, q .under, add-one d, add-one i)

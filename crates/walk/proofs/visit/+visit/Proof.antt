@@ -1,0 +1,133 @@
+-- The proof of the cycle of calls {visit}. Its measure is `below`. The loop's invariant: the steps along the entries left, from the state
+-- that is there, give what those along all entries below the node give from the state that the loop began with. Assumes nothing.
+use borrow.Author.Needs.{needs}
+use native.Mathlib.Omega.{arith}
+use native.Mathlib.Nat.{sub-zero}
+use mathlib.Core.Path.{_≡_, sym, _∙_}
+use Prim.Native.Nat.{ℕ, _-_, _<_, _≤_}
+use Rattle.btree.specs.Lists.{span}
+use Rattle.btree.specs.Header.{viewOf}
+use Rattle.btree.specs.Walk.{entries}
+use Rattle.formats.specs.Format.{view}
+use Rattle.formats.specs.Bound.{bound}
+use Rattle.walk.specs.Visit.{steps}
+use Rattle.step.specs.Room.{Small}
+use Rattle.walk.proofs.Steps.{kid, steps-stuck, steps-leaf, steps-index, kids-end, kids-on}
+use borrow.Fn.Kinds.{In}
+use borrow.Fn.PlainCycle.{Measures, is, falls, and}
+use Rattle.walk.proofs.visit.visit.Reads as visit
+use Rattle.walk.proofs.visit.visit.Kinds as visit-kinds
+use Rattle.walk.proofs.visit.+visit.Lts-visit as lts
+use Rattle.hfs.proofs.node.count_of.Reads as count-of-reads
+use Rattle.walk.proofs.visit.pointer_at.Reads as pointer-at-reads
+use Rattle.step.proofs.stepped.Reads as stepped-reads
+use Rattle.walk.proofs.visit.+visit.{statement}
+use Rattle.walk.proofs.visit.+visit.Tie.{close}
+
+abbrev μ-visit : Measures 1 visit-kinds.ps ℕ
+μ-visit κs a = a .1 .1 .1 .1 .1 .0
+
+abbrev pre : ℕ → In 1 visit-kinds.ps
+pre t = and 1 visit-kinds.ps (is 1 visit-kinds.ps μ-visit t) visit.Pre
+
+abbrev calls : ℕ → lts.Claims
+calls t = (
+  stepped-reads.Asked,
+  stepped-reads.Learnt,
+  count-of-reads.Asked,
+  count-of-reads.Learnt,
+  pointer-at-reads.Asked,
+  pointer-at-reads.Learnt,
+  and 1 visit-kinds.ps (falls 1 visit-kinds.ps _<_ μ-visit t) visit.Pre,
+  visit.Post,
+)
+
+abbrev Inv : lts.InvT-loop
+Inv image node parent level below low high x₀ c i₀ x i =
+    (i ≤ c)
+    × (steps (view image) x (span i (c - i) (kid (view image) (below - 1) level (bound high) node))
+    ≡ steps (view image) x₀ (span 0 c (kid (view image) (below - 1) level (bound high) node)))
+    × Small x
+
+abbrev μ : lts.MeasureT-loop
+μ image node parent level below low high x₀ c i₀ x i = c - i
+
+module _ (t : ℕ) where
+  -- what the loop is to give is what the visit is to give
+  whole : (c : lts.At-loop (calls t) (pre t) visit.Post Inv μ) → let a = c .before .before .before .before .before .args in
+      steps (view (a .image .now)) (c .before .before .before .stepped .result)
+      (span 0 (c .before .count-of .result) (kid (view (a .image .now)) (a .below - 1) (a .level) (bound (a .high)) (a .node)))
+      ≡ steps (view (a .image .now)) (a .w) (entries (view (a .image .now)) (a .below) (a .level) (a .parent) (a .low) (bound (a .high)) (a .node))
+  unfolding viewOf
+  whole c =
+      rw (c .before .count-of .ensures .0, c .before .before .before .stepped .ensures .is)
+      (sym (steps-index _ _ _ _ _ _ _ _ (c .before .before .if1 .left)))
+
+  stepped-requires : lts.Need-stepped-requires (calls t) (pre t) visit.Post Inv μ
+  stepped-requires c κs = search needs
+
+  returns : lts.Need-returns (calls t) (pre t) visit.Post Inv μ
+  returns c =
+      let e = c .before .stepped .ensures in
+      record { is = e .is ∙ sym (steps-leaf _ _ _ _ _ _ _ _ (c .if1 .taken)); small = e .small }
+
+  count-of-requires : lts.Need-count-of-requires (calls t) (pre t) visit.Post Inv μ
+  count-of-requires c κs = search needs
+
+  loop-holds : lts.Need-loop-holds (calls t) (pre t) visit.Post Inv μ
+  loop-holds c = (search needs, rw sub-zero, c .before .before .stepped .ensures .small)
+
+  returns-2 : lts.Need-returns-2 (calls t) (pre t) visit.Post Inv μ
+  returns-2 c =
+      let l = c .before .before .before in
+      record { is = sym (steps-stuck _ _ _ (c .if2 .taken)) ∙ l .loop .inv .1 ∙ whole l; small = l .loop .inv .2 }
+
+  pointer-at-requires : lts.Need-pointer-at-requires (calls t) (pre t) visit.Post Inv μ
+  unfolding viewOf
+  pointer-at-requires c κs =
+      let e = c .before .before .before .before .count-of .ensures in
+      (omega (arith, e .1), e .0)
+
+  add-visit : lts.Need-add-visit (calls t) (pre t) visit.Post Inv μ
+  add-visit c = search needs
+
+  sub-visit : lts.Need-sub-visit (calls t) (pre t) visit.Post Inv μ
+  sub-visit c = search needs
+
+  visit-requires : lts.Need-visit-requires (calls t) (pre t) visit.Post Inv μ
+  visit-requires c κs =
+      let p = c .before .before .before .before .before .before .before .before .before .pre in (
+        omega (arith, p),
+        record {
+          few = p .1 .few;
+          shallow = p .1 .shallow;
+          levels = omega (arith, p .1);
+          clear = c .before .if2 .left;
+          small = c .before .before .before .before .loop .inv .2;
+        },
+      )
+
+  add-i : lts.Need-add-i (calls t) (pre t) visit.Post Inv μ
+  add-i c = search needs
+
+  loop-less : lts.Need-loop-less (calls t) (pre t) visit.Post Inv μ
+  loop-less c = search needs
+
+  loop-again : lts.Need-loop-again (calls t) (pre t) visit.Post Inv μ
+  loop-again c =
+      let l = c .before .before .before .before .before in
+      let a = l .before .before .before .before .before .args in (
+        search needs,
+        sym (kids-on _ (a .below - 1) (a .level) _ _ _ _ _ _ _ (c .before .before .before .before .loop-test .taken) (c .before .pointer-at .ensures) (c .visit .ensures .is))
+            ∙ l .loop .inv .1,
+        c .visit .ensures .small,
+      )
+
+  returns-3 : lts.Need-returns-3 (calls t) (pre t) visit.Post Inv μ
+  returns-3 c =
+      let l = c .before in
+      record { is = sym (kids-end _ _ _ _ _ (c .loop-test .left)) ∙ l .loop .inv .1 ∙ whole l; small = l .loop .inv .2 }
+
+pub +visit-spec : {M : Type 1} → statement M
++visit-spec = close μ-visit λ t. lts.spec (calls t) (pre t) visit.Post Inv μ
+    (stepped-requires t) (returns t) (count-of-requires t) (loop-holds t) (returns-2 t) (pointer-at-requires t) (add-visit t) (sub-visit t) (visit-requires t) (add-i t) (loop-less t) (loop-again t) (returns-3 t)

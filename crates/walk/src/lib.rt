@@ -1,0 +1,41 @@
+// Tests 4 to 8: the walk of the tree, and the tests at its end.
+ghost use Rattle.walk.specs.Outcome.{Begins, Ends};
+use closing::closing_tests;
+use image::bytes::be16;
+use image::bytes::be32;
+use image::visited::Visited;
+use step::state::Walk;
+use step::state::stopped_at;
+use visit::visit;
+
+pub mod closing;
+pub mod visit;
+
+// Tests 4 to 8, where `visited` has the header and the map chain, and they are so many.
+pub fn tree_tests(image: &[u8], visited: Visited, nodes: u32) -> Walk
+    requires { ⌜ Begins (now image) (visited .bits) nodes ⌝ }
+    ensures { λ r. ⌜ Ends (now (image .entry)) r ⌝ }
+{
+    let bits = visited.bits;
+    let w = Walk {
+        visited: bits,
+        last: [0; 8],
+        records: 0,
+        first: 0,
+        nodes,
+        number: 0,
+        place: 0,
+    };
+    let depth = be16(image, 14);
+    if depth == 0 {
+        let none = closing_tests(image, w);
+        return stopped_at(w, none);
+    }
+    let root = be32(image, 16);
+    let x = visit(image, w, root, 0, 0, depth - 1, 0, 72_057_594_037_927_936);
+    if x.number != 0 {
+        return x;
+    }
+    let t = closing_tests(image, x);
+    stopped_at(x, t)
+}
