@@ -28,7 +28,9 @@
  *  13   seen                                       node and record
  *  14   not seen                                   0
  *
- * Nodes and records count from 0. Of several faults the first in the order of tests is the answer.
+ * Nodes and records count from 0. Levels count from the leaves: leaves are the nodes of level 1, each
+ * child's level is one less than its parent's, and the root's is the depth. Of several faults the
+ * first in the order of tests is the answer.
  */
 #ifndef HFS_BTREE_H
 #define HFS_BTREE_H

@@ -1,5 +1,6 @@
 // Those of the paper's bench images that are run and not computed: each is built as the paper says, and checked.
 ghost use Prim.Native.Nat.{_≤_};
+use bench_images::put::put8;
 use bench_images::tree::put_empty_tree;
 use bench_images::tree::put_index_tree;
 use bench_images::tree::put_leaf_tree;
@@ -31,19 +32,40 @@ fn leaf_records(name: &[u8], n: u32, free: u32)
     say(name, &image);
 }
 
-fn say_index_tree(name: &[u8], image: &mut [u8], n: u32, free: u32, bits: u32)
+fn say_index_tree(name: &[u8], image: &mut [u8], n: u32, free: u32, map: u32, more: u32)
     requires { ⌜ n ≤ 36 ⌝ }
 {
-    put_index_tree(image, n, free, bits);
+    put_index_tree(image, n, free, map, more);
     say(name, image);
 }
 
-fn index_records(name: &[u8], n: u32, free: u32, bits: u32)
+fn index_records(name: &[u8], n: u32, free: u32, map: u32, more: u32)
     requires { ⌜ n ≤ 36 ⌝ }
 {
     let mut image = [0u8; 19456];
     let len = ((n as usize) + 2) * 512;
-    say_index_tree(name, &mut image[0..len], n, free, bits);
+    say_index_tree(name, &mut image[0..len], n, free, map, more);
+}
+
+// A root over two leaves with other levels, that of the root and that of the leaves.
+fn say_other_levels(name: &[u8], image: &mut [u8], root: u32, leaves: u32) {
+    put_index_tree(image, 2, 0x0026, 0xF000_0000, 0);
+    put8(image, 521, root);
+    put8(image, 1033, leaves);
+    put8(image, 1545, leaves);
+    say(name, image);
+}
+
+fn other_levels(name: &[u8], root: u32, leaves: u32) {
+    let mut image = [0u8; 2048];
+    say_other_levels(name, &mut image, root, leaves);
+}
+
+fn two_levels() {
+    index_records(b"levels 2, 1", 2, 0x0026, 0xF000_0000, 0);
+    other_levels(b"levels 1, 2", 1, 2);
+    other_levels(b"levels 1, 0", 1, 0);
+    other_levels(b"levels 2, 0", 2, 0);
 }
 
 // Over lent bytes, so that the length of so long an array is proved once.
@@ -75,8 +97,9 @@ fn main() {
     too_many_nodes();
     leaf_records(b"22 leaf records", 22, 0x01C6);
     leaf_records(b"23 leaf records", 23, 0x01DA);
-    index_records(b"35 index records", 35, 0x01B2, 0xF8);
-    index_records(b"36 index records", 36, 0x01BE, 0xFC);
+    index_records(b"35 index records", 35, 0x01B2, 0xFFFF_FFFF, 0xF8);
+    index_records(b"36 index records", 36, 0x01BE, 0xFFFF_FFFF, 0xFC);
+    two_levels();
     nodes_2048();
     nodes_2049();
     map_loop();

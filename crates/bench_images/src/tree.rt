@@ -35,7 +35,7 @@ fn put_leaf(image: &mut [u8], i: u32, n: u32)
     put_node(
         image,
         number,
-        [forward, back, 0xFF02_0001],
+        [forward, back, 0xFF01_0001],
         1,
         20,
         i + 1,
@@ -53,8 +53,8 @@ fn put_leaves(image: &mut [u8], n: u32)
     }
 }
 
-// A root with n index records over leaves of one record each. The map has four full bytes and one more.
-pub fn put_index_tree(image: &mut [u8], n: u32, free: u32, bits: u32)
+// A root with n index records over leaves of one record each. The map has four bytes and one more.
+pub fn put_index_tree(image: &mut [u8], n: u32, free: u32, map: u32, more: u32)
     requires { ⌜ n ≤ 36 ⌝ }
 {
     let header = Header {
@@ -67,9 +67,9 @@ pub fn put_index_tree(image: &mut [u8], n: u32, free: u32, bits: u32)
         total: n + 2,
         free: 0,
     };
-    put_header(image, header, 0xFFFF_FFFF);
-    put8(image, 252, bits);
-    put_node(image, 1, [0, 0, 0x0001_0000 + n], n, 12, 1, free);
+    put_header(image, header, map);
+    put8(image, 252, more);
+    put_node(image, 1, [0, 0, 0x0002_0000 + n], n, 12, 1, free);
     put_leaves(image, n);
 }
 

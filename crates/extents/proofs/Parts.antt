@@ -13,7 +13,7 @@ use Rattle.btree.proofs.Decisions.{cond-yes}
 use Rattle.btree.proofs.MapBits.{node-inside}
 use Rattle.hfs.specs.Hfs.{hfs}
 use Rattle.hfs.proofs.Hfs.{fits}
-use Rattle.formats.specs.Format.{leafKind, indexKind, kindOn, dataAt, Records, view}
+use Rattle.formats.specs.Format.{leafKind, indexKind, kindOn, levelOf, dataAt, Records, view}
 use Rattle.extents.specs.Reader.{Sound}
 use Rattle.formats.proofs.Sizes.{record-inside}
 
@@ -32,7 +32,8 @@ module _ (img : List ℕ) (s : Sound img) where
   unfolding viewOf kindOn
   leaf-records n m =
       let (h, e, o) = leaf-level img n m in
-      let k = cond-yes (ℕ-discrete (h + 1) (depthOf img)) leafKind indexKind e in
+      let l = s .nodes h n o .level in
+      let k = cond-yes (ℕ-discrete (levelOf img n) 1) leafKind indexKind (omega arith) in
       (rw k at (s .nodes h n o .records), s .tree .inRange h n o)
 
   pub leaf-inside : (n i : ℕ) → n ∈ leavesAt (view img) (view img .depth) → i < countOf hfs img n → dataAt img n i + 12 ≤ length img

@@ -28,13 +28,16 @@ recordSize kind = cond (ℕ-discrete kind leafKind) 20 12
 unfoldable pub maxRecords : ℕ → ℕ
 maxRecords kind = cond (ℕ-discrete kind leafKind) 22 35
 
--- "Leaves are exactly the nodes whose level is the depth."
-unfoldable pub kindOn : ℕ → ℕ → ℕ
-kindOn depth d = cond (ℕ-discrete (d + 1) depth) leafKind indexKind
+-- "leaves are exactly the nodes of level 1"
+unfoldable pub kindOn : ℕ → ℕ
+kindOn level = cond (ℕ-discrete level 1) leafKind indexKind
 
 module _ (img : List ℕ) where
   unfoldable pub kindOf : ℕ → ℕ
   kindOf n = getD img (n * 512 + 8) 0
+
+  abbrev pub levelOf : ℕ → ℕ
+  levelOf n = getD img (n * 512 + 9) 0
 
   -- "Records lie side by side from 0E"
   unfoldable pub recordAt : ℕ → ℕ → ℕ
@@ -60,10 +63,11 @@ module _ (img : List ℕ) where
     pub lengths : (i : ℕ) → i < countOf hfs img n → getD img (recordAt n i) 0 ≡ 7
     pub forks : (i : ℕ) → i < countOf hfs img n → Lawful (getD img (recordAt n i + 1) 0)
 
-  -- a node on level d, counted from 0, of a tree of this depth: "the root 1, each child one more than its parent"
+  -- a node d levels below the root of a tree of this depth
   pub record NodeOn (depth n d : ℕ) : Type 0 where
-    pub level : getD img (n * 512 + 9) 0 ≡ d + 1
-    pub records : Records (kindOn depth d) n
+    -- "the root's level is the depth, each child's is one less than its parent's"
+    pub level : levelOf n + d ≡ depth
+    pub records : Records (kindOn (levelOf n)) n
 
   unfoldable pub decRecords : (kind n : ℕ) → Dec (Records kind n)
   decRecords kind n =
@@ -82,7 +86,7 @@ module _ (img : List ℕ) where
   unfoldable pub decNodeOn : (depth n d : ℕ) → Dec (NodeOn depth n d)
   decNodeOn depth n d =
       map-dec (λ (a, b). record { level = a; records = b }) (λ r. (r .level, r .records))
-      (Dec·and (ℕ-discrete (getD img (n * 512 + 9) 0) (d + 1)) (decRecords (kindOn depth d) n))
+      (Dec·and (ℕ-discrete (levelOf n + d) depth) (decRecords (kindOn (levelOf n)) n))
 
 abbrev pub format : Format
 format =

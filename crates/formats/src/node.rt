@@ -4,7 +4,6 @@ ghost use Prim.Native.Nat.{ℕ, suc, _+_, _-_, _*_, _<_, _≤_};
 ghost use lib.ListN.{getD};
 ghost use Rattle.image.specs.Bytes.{be16At};
 ghost use Rattle.btree.specs.Decide.{says};
-ghost use Rattle.btree.specs.Header.{depthOf};
 ghost use Rattle.btree.specs.Walk.{decOrdered};
 ghost use Rattle.formats.specs.Key.{Lawful};
 ghost use Rattle.formats.specs.Format.{kindOn, recordAt, decRecords, view};
@@ -86,23 +85,24 @@ fn records_right(image: &[u8], node: u32, kind: u32) -> bool
     keys_lawful(image, node, c)
 }
 
-// The kind of the nodes on a level.
-fn kind_on(image: &[u8], level: u32) -> u32
-    requires { ⌜ level < 8 ⌝ }
-    ensures { λ r. ⌜ r ≡ kindOn (depthOf (now (image .entry))) level ⌝ }
+// Leaves are the nodes of level 1.
+fn kind_on(level: u32) -> u32
+    ensures { λ r. ⌜ r ≡ kindOn level ⌝ }
 {
-    if level + 1 == be16(image, 14) { 255 } else { 0 }
+    if level == 1 { 255 } else { 0 }
 }
 
-// Test 5.
-pub fn node_right(image: &[u8], node: u32, level: u32) -> bool
-    requires { ⌜ level < 8 ⌝ }
-    ensures { λ r. ⌜ r ≡ says (view (now (image .entry)) .decWellFormed node level) ⌝ }
+// Test 5, of a node with so many levels above it. The level of the root, which has none above it, is the depth.
+pub fn node_right(image: &[u8], node: u32, above: u32) -> bool
+    requires { ⌜ above < 8 ⌝ }
+    ensures { λ r. ⌜ r ≡ says (view (now (image .entry)) .decWellFormed node above) ⌝ }
 {
-    if level_of(image, node) != level + 1 {
+    let level = level_of(image, node);
+    let depth = be16(image, 14);
+    if level + above != depth {
         return false;
     }
-    records_right(image, node, kind_on(image, level))
+    records_right(image, node, kind_on(level))
 }
 
 // Test 6: the keys strictly ascend, from `low` up and below `high`.

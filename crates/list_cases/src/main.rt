@@ -25,7 +25,9 @@ fn main() {
     case(b"map_node_linked_to_itself");
     case(b"leaf_22_records");
     case(b"leaf_23_records");
+    case(b"two_leaves");
     case(b"two_level");
+    case(b"two_level_levels_from_the_root_in_node_8");
     case(b"two_level_child_33_is_parent_in_node_8");
     case(b"two_level_last_key_at_next_pointer_in_node_40");
     case(b"two_level_forward_link_0_in_node_40");

@@ -26,4 +26,4 @@ any-key file fork start (inr e) = rw e refl
 pub bench-right : All Right bench
 unfolding Dec·and Dec·not decLe decLt ℕ-discrete be16At be32At says map-dec decImp decOr decMem decAll decUnder decFresh decOrdered decLeads decTotals test ends closing walk lookupOf mapBytes decDescriptor decNoTree wrongIn lowestWrong bitFor decLengths decMapNode decHeaderNode chainFrom mapTests verdict decLawful packed compared recordSize maxRecords kindOn kindOf recordAt keyOf decRecords decNodeOn viewOf
 bench-right =
-    (refl, (refl, (refl, (any-key, (refl, (refl, (refl, (refl, (refl, (refl, (refl, (refl, (refl, (refl, (refl, (refl, (refl, tt)))))))))))))))))
+    (refl, (refl, (refl, (any-key, (refl, (refl, (refl, (refl, (refl, (refl, (refl, (refl, (refl, (refl, (refl, (refl, (refl, (refl, (refl, (refl, (refl, (refl, (refl, tt)))))))))))))))))))))))

@@ -1,4 +1,4 @@
--- The images on the bench that are marked *: an image, a question about it, and the paper's answer.
+-- The images on the bench that are marked *, and one of two levels: an image, a question about it, and the paper's answer.
 -- Assumes nothing.
 use mathlib.Core.Path.{_≡_}
 use mathlib.Core.List.{List, [], _∷_}
@@ -11,7 +11,7 @@ use Rattle.btree.specs.Numbers.{lookupReply}
 use Rattle.formats.specs.declared.key.Key.{Key}
 use Rattle.formats.specs.Key.{Lawful, packed, compared, asked}
 use Rattle.extents.specs.Reader.{verdict, lookedUp}
-use Rattle.vectors.specs.Build.{E1, L1}
+use Rattle.vectors.specs.Build.{E1, L1, twoLeaves}
 
 -- the numbers of a reply and of the search path beside it
 abbrev pub numbersOf : Lookup → List ℕ
@@ -69,6 +69,15 @@ bench =
     of L1 (look (asked 16 0x01 5) (11 ∷ 0 ∷ 0 ∷ 0 ∷ 0 ∷ 0 ∷ 0 ∷ 0 ∷ 0 ∷ 0 ∷ 0 ∷ 0 ∷ [])) ∷
     -- "L1 with node 1's back link 1: 7 place 1."
     of (set L1 519 1) (check 7 1) ∷
+    -- "the root's level is the depth, each child's is one less than its parent's, and leaves are exactly the nodes of level 1": sound
+    of (twoLeaves 2 1 1) (check 0 0) ∷
+    -- a key found through the root, and a key below every pointer
+    of (twoLeaves 2 1 1) (look (asked 17 0x00 0) (0 ∷ 3 ∷ 1 ∷ 2 ∷ 1 ∷ 3 ∷ 0 ∷ 0 ∷ 0 ∷ 0 ∷ 0 ∷ 0 ∷ [])) ∷
+    of (twoLeaves 2 1 1) (look (asked 16 0x00 4) (12 ∷ 1 ∷ 0 ∷ 1 ∷ 1 ∷ 0 ∷ 0 ∷ 0 ∷ 0 ∷ 0 ∷ 0 ∷ 0 ∷ [])) ∷
+    -- levels counted from the root; leaves of level 0; one leaf of level 2
+    of (twoLeaves 1 2 2) (check 5 1) ∷
+    of (twoLeaves 2 0 0) (check 5 2) ∷
+    of (twoLeaves 2 1 2) (check 5 3) ∷
     -- "Order: (16, 00, 9) below (16, FF, 0) below (17, 00, 0); packed 268,435,465, 285,147,136, 285,212,672."
     of [] (compares (asked 16 0x00 9) (asked 16 0xFF 0) (negsuc 0)) ∷
     of [] (compares (asked 16 0xFF 0) (asked 17 0x00 0) (negsuc 0)) ∷

@@ -1,8 +1,8 @@
 -- Images made of zeros and of bytes put at named places.
 -- Assumes nothing.
 use mathlib.Core.List.{List, [], _∷_, _++_}
-use Prim.Native.Nat.{ℕ, suc, _/_, _%_}
-use lib.ListN.{set, replicate}
+use Prim.Native.Nat.{ℕ, suc, _-_, _/_, _%_}
+use lib.ListN.{length, set, replicate}
 
 -- the bytes stored from place i on
 abbrev pub put : ℕ → List ℕ → List ℕ → List ℕ
@@ -16,27 +16,43 @@ be16 n = n / 256 % 256 ∷ n % 256 ∷ []
 abbrev pub be32 : ℕ → List ℕ
 be32 n = n / 16777216 % 256 ∷ n / 65536 % 256 ∷ n / 256 % 256 ∷ n % 256 ∷ []
 
--- an image of so many bytes with "a header as above", whose depth, root, leaf records, first and last leaf are all one number
-abbrev pub headed : ℕ → ℕ → ℕ → ℕ → List ℕ
-headed size one total mapByte =
+-- "a header as above" with its depth, root, leaf records, first and last leaf; then its total, and its first map byte. Free is 0.
+abbrev pub header : List ℕ → ℕ → ℕ → List ℕ
+header tree total mapByte =
     put 8 (1 ∷ [])
     (put 10 (be16 3)
-    (put 14 (be16 one ++ be32 one ++ be32 one ++ be32 one ++ be32 one ++ be16 512 ++ be16 7 ++ be32 total ++ be32 0)
+    (put 14 (tree ++ be16 512 ++ be16 7 ++ be32 total ++ be32 0)
     (put 248 (mapByte ∷ [])
     (put 504 (be16 0x1F8 ++ be16 0xF8 ++ be16 0x78 ++ be16 0xE)
-    (replicate size 0)))))
+    (replicate 512 0)))))
+
+-- a node with its links, kind, level and count; its records; its last bytes
+abbrev pub node : List ℕ → List ℕ → List ℕ → List ℕ
+node start records ends = put 0 start (put 14 records (put (512 - length ends) ends (replicate 512 0)))
+
+-- "length 07, fork (00 data, FF resource), file number (4), start block (2)"
+abbrev pub keyBytes : ℕ → ℕ → ℕ → List ℕ
+keyBytes file fork start = 0x07 ∷ fork ∷ be32 file ++ be16 start
+
+-- "three pairs of first block and block count", the second and the third zero
+abbrev pub onePair : ℕ → ℕ → List ℕ
+onePair first count = be16 first ++ be16 count ++ be32 0 ++ be32 0
 
 -- "one node, a header as above with depth 0, total 1, free 0, first map byte 80, every byte not named zero"
 abbrev pub E1 : List ℕ
-E1 = headed 512 0 1 0x80
+E1 = header (be16 0 ++ be32 0 ++ be32 0 ++ be32 0 ++ be32 0) 1 0x80
 
--- "Node 1: links 0, FF, level 1, count 1, record 07 00 00000010 0005 0064 0003 and eight zero bytes, end 0022 000E"
-abbrev pub leaf1 : List ℕ → List ℕ
-leaf1 img =
-    put 520 (0xFF ∷ 1 ∷ be16 1)
-    (put 526 (0x07 ∷ 0x00 ∷ be32 0x10 ++ be16 5 ++ be16 0x64 ++ be16 3)
-    (put 1020 (be16 0x22 ++ be16 0xE) img))
-
--- "header with depth, root, leaf records, first and last leaf 1, total 2, free 0, map byte C0"
+-- "header with depth, root, leaf records, first and last leaf 1, total 2, free 0, map byte C0. Node 1: links 0, FF, level 1, count 1,
+-- record 07 00 00000010 0005 0064 0003 and eight zero bytes, end 0022 000E."
 abbrev pub L1 : List ℕ
-L1 = leaf1 (headed 1024 1 2 0xC0)
+L1 =
+    header (be16 1 ++ be32 1 ++ be32 1 ++ be32 1 ++ be32 1) 2 0xC0
+    ++ node (be32 0 ++ be32 0 ++ 0xFF ∷ 1 ∷ be16 1) (keyBytes 0x10 0x00 5 ++ onePair 0x64 3) (be16 0x22 ++ be16 0xE)
+
+-- Two levels: the root, node 1, points at the leaves 2 and 3, which have one record and two. The level bytes of the three nodes are given.
+abbrev pub twoLeaves : ℕ → ℕ → ℕ → List ℕ
+twoLeaves level1 level2 level3 =
+    header (be16 2 ++ be32 1 ++ be32 3 ++ be32 2 ++ be32 3) 4 0xF0
+    ++ node (be32 0 ++ be32 0 ++ 0x00 ∷ level1 ∷ be16 2) (keyBytes 0x10 0x00 5 ++ be32 2 ++ keyBytes 0x10 0xFF 0 ++ be32 3) (be16 0x26 ++ be16 0x1A ++ be16 0xE)
+    ++ node (be32 3 ++ be32 0 ++ 0xFF ∷ level2 ∷ be16 1) (keyBytes 0x10 0x00 5 ++ onePair 0x64 3) (be16 0x22 ++ be16 0xE)
+    ++ node (be32 0 ++ be32 2 ++ 0xFF ∷ level3 ∷ be16 2) (keyBytes 0x10 0xFF 0 ++ onePair 0x67 2 ++ keyBytes 0x11 0x00 0 ++ onePair 0x69 1) (be16 0x36 ++ be16 0x22 ++ be16 0xE)

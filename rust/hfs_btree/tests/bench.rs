@@ -1,7 +1,9 @@
 //! The smallest images of the paper's bench, with the paper's answers.
 
 use hfs_btree::{check, lookup, salvage, Answer, Lookup, Salvage, SalvageAnswer, Verdict};
-use images::bench::{e1, e1_with_map_byte, l1, l1_with_back_link_1};
+use images::bench::{
+    e1, e1_with_map_byte, l1, l1_with_back_link_1, two_leaves, two_leaves_with_levels,
+};
 
 const NO_DATA: [u8; 12] = [0; 12];
 
@@ -32,6 +34,28 @@ fn lookups() {
     assert_eq!(lookup(&l1(), 16, 0x01, 5), refused);
     let refused = answered(Answer::Refused { number: 7, place: 1 });
     assert_eq!(lookup(&l1_with_back_link_1(), 16, 0x00, 5), refused);
+}
+
+#[test]
+fn two_levels() {
+    assert_eq!(check(&two_leaves()), Verdict { number: 0, place: 0 });
+    let found = Lookup {
+        answer: Answer::Found { node: 3, record: 1 },
+        path: [1, 3, 0, 0, 0, 0, 0, 0],
+        path_len: 2,
+        data: [0, 105, 0, 1, 0, 0, 0, 0, 0, 0, 0, 0],
+    };
+    assert_eq!(lookup(&two_leaves(), 17, 0x00, 0), found);
+    let below_every_pointer = Lookup {
+        path: [1, 0, 0, 0, 0, 0, 0, 0],
+        path_len: 1,
+        ..answered(Answer::Absent { node: 1 })
+    };
+    assert_eq!(lookup(&two_leaves(), 16, 0x00, 4), below_every_pointer);
+    let from_the_root = two_leaves_with_levels(1, 2);
+    assert_eq!(check(&from_the_root), Verdict { number: 5, place: 1 });
+    let refused = answered(Answer::Refused { number: 5, place: 1 });
+    assert_eq!(lookup(&from_the_root, 17, 0x00, 0), refused);
 }
 
 #[test]

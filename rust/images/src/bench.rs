@@ -33,10 +33,7 @@ pub fn e1_with_free_1() -> Vec<u8> {
 
 /// L1: a header and one leaf with one record.
 pub fn l1() -> Vec<u8> {
-    one_leaf(&[Record {
-        key: Key::new(16, 0x00, 5),
-        data: [0x00, 0x64, 0x00, 0x03, 0, 0, 0, 0, 0, 0, 0, 0],
-    }])
+    one_leaf(&[one_pair(Key::new(16, 0x00, 5), 100, 3)])
 }
 
 /// L1 whose leaf is linked back to itself.
@@ -73,14 +70,54 @@ pub fn index_with(count: usize) -> Vec<u8> {
         pointers.push(Pointer { key, child });
         let forward = if child + 1 < total { child + 1 } else { 0 };
         let back = if child > 2 { child - 1 } else { 0 };
-        let descriptor = Descriptor { forward, back, level: 2 };
+        let descriptor = Descriptor { forward, back, level: 1 };
         let mut node = [0; NODE_SIZE];
         write_leaf(&mut node, descriptor, &[*record]);
         put_node(&mut image, child, &node);
     }
     let mut root = [0; NODE_SIZE];
-    write_index(&mut root, ALONE, &pointers);
+    write_index(&mut root, Descriptor { level: 2, ..ALONE }, &pointers);
     put_node(&mut image, 1, &root);
+    image
+}
+
+/// Two levels in four nodes: a root, node 1, over the leaves 2 and 3 with one record and two.
+pub fn two_leaves() -> Vec<u8> {
+    let fields = HeaderFields {
+        depth: 2,
+        root: 1,
+        leaf_records: 3,
+        first_leaf: 2,
+        last_leaf: 3,
+        total: 4,
+        ..HeaderFields::default()
+    };
+    let mut image = vec![0; 4 * NODE_SIZE];
+    put_header(&mut image, &fields);
+    put_bits(&mut image, 4);
+    let records = [
+        one_pair(Key::new(16, 0x00, 5), 100, 3),
+        one_pair(Key::new(16, 0xFF, 0), 103, 2),
+        one_pair(Key::new(17, 0x00, 0), 105, 1),
+    ];
+    let pointers =
+        [Pointer { key: records[0].key, child: 2 }, Pointer { key: records[1].key, child: 3 }];
+    let mut nodes = [[0; NODE_SIZE]; 3];
+    write_index(&mut nodes[0], Descriptor { forward: 0, back: 0, level: 2 }, &pointers);
+    write_leaf(&mut nodes[1], Descriptor { forward: 3, back: 0, level: 1 }, &records[..1]);
+    write_leaf(&mut nodes[2], Descriptor { forward: 0, back: 2, level: 1 }, &records[1..]);
+    for (node, number) in nodes.iter().zip(1..) {
+        put_node(&mut image, number, node);
+    }
+    image
+}
+
+/// The same tree with other level bytes in the root and in both leaves.
+pub fn two_leaves_with_levels(root: u8, leaves: u8) -> Vec<u8> {
+    let mut image = two_leaves();
+    for (number, level) in [(1, root), (2, leaves), (3, leaves)] {
+        image[number * NODE_SIZE + 9] = level;
+    }
     image
 }
 
@@ -96,6 +133,7 @@ pub fn map_node_linked_to_itself() -> Vec<u8> {
     image
 }
 
+/// A root that is the only leaf.
 const ALONE: Descriptor = Descriptor { forward: 0, back: 0, level: 1 };
 
 fn one_leaf(records: &[Record]) -> Vec<u8> {
@@ -115,6 +153,14 @@ fn one_leaf(records: &[Record]) -> Vec<u8> {
     write_leaf(&mut node, ALONE, records);
     put_node(&mut image, 1, &node);
     image
+}
+
+/// A record whose second and third pair are zero.
+fn one_pair(key: Key, first_block: u16, block_count: u16) -> Record {
+    let mut data = [0; 12];
+    data[..2].copy_from_slice(&first_block.to_be_bytes());
+    data[2..4].copy_from_slice(&block_count.to_be_bytes());
+    Record { key, data }
 }
 
 fn numbered_records(count: usize) -> Vec<Record> {

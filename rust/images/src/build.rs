@@ -39,6 +39,11 @@ impl Built {
     pub fn depth(&self) -> usize {
         self.levels.len()
     }
+
+    /// The level byte of the nodes of `levels[index]`: the depth at the root, 1 at the leaves.
+    pub fn level_byte(&self, index: usize) -> u8 {
+        (self.depth() - index) as u8
+    }
 }
 
 /// Builds the image of a plan; the same plan always gives the same bytes.
@@ -114,7 +119,7 @@ fn tree_node(mut node: Node, built: &Built, level: usize, position: usize) -> No
     let descriptor = Descriptor {
         forward: this.numbers.get(position + 1).copied().unwrap_or(0),
         back: if position == 0 { 0 } else { this.numbers[position - 1] },
-        level: level as u8 + 1,
+        level: built.level_byte(level),
     };
     let group = this.groups[position].clone();
     match built.levels.get(level + 1) {

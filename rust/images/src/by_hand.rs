@@ -18,7 +18,7 @@ pub fn three_levels_by_hand() -> Vec<u8> {
     let mut image = vec![0; 11 * NODE_SIZE];
     put(&mut image, 0, |node| write_header(node, &HEADER));
     put(&mut image, 10, |node| write_map(node, 0));
-    put_index(&mut image, 1, (0, 0, 1), [(10, 2), (45, 3)]);
+    put_index(&mut image, 1, (0, 0, 3), [(10, 2), (45, 3)]);
     put_index(&mut image, 2, (0, 3, 2), [(10, 4), (25, 5)]);
     put_index(&mut image, 3, (2, 0, 2), [(50, 6), (70, 7)]);
     put_leaf(&mut image, 4, (0, 5), [10, 20]);
@@ -63,7 +63,7 @@ fn put_index(image: &mut [u8], number: u32, position: IndexPosition, pointers: [
 
 fn put_leaf(image: &mut [u8], number: u32, (back, forward): (u32, u32), files: [u32; 2]) {
     let records = files.map(|file| Record { key: file_key(file), data: file_data(file) });
-    let descriptor = Descriptor { forward, back, level: 3 };
+    let descriptor = Descriptor { forward, back, level: 1 };
     put(image, number, |node| write_leaf(node, descriptor, &records));
 }
 

@@ -40,6 +40,8 @@ fn bench_samples() -> Vec<Sample> {
         sample("leaf_23_records", leaf_with(23)),
         sample("index_35_records", index_with(35)),
         sample("index_36_records", index_with(36)),
+        sample("two_leaves", two_leaves()),
+        sample("two_leaves_levels_from_the_root", two_leaves_with_levels(1, 2)),
         sample("nodes_2048_no_map_node", empty_tree(2_048)),
         sample("nodes_2049_no_map_node", empty_tree(2_049)),
         sample("map_node_linked_to_itself", map_node_linked_to_itself()),

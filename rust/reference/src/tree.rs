@@ -7,6 +7,9 @@ use crate::record::{child, packed_key, Index, Leaf};
 use crate::verdict::{require, Verdict, CHILD, LINKS};
 use std::ops::Range;
 
+/// Levels count from the leaves up; the root's is the depth.
+const LEAF_LEVEL: usize = 1;
+
 /// No packed key reaches this, so it stands for "no bound above".
 const UNBOUNDED: u64 = u64::MAX;
 
@@ -21,7 +24,7 @@ struct Walk<'a> {
     nodes: &'a [Node],
     depth: usize,
     met: &'a mut NodeSet,
-    /// The node met last on each level, 0 for none; the levels count from 1.
+    /// The node met last on each level, 0 for none.
     last_met: [u32; 9],
     first_leaf: u32,
     leaf_records: u32,
@@ -39,14 +42,14 @@ pub fn walk(nodes: &[Node], header: &Header, met: &mut NodeSet) -> Result<LeafTo
     let mut walk =
         Walk { nodes, depth: header.depth, met, last_met: [0; 9], first_leaf: 0, leaf_records: 0 };
     if header.depth > 0 {
-        let root = Position { parent: 0, level: 1, bounds: 0..UNBOUNDED };
+        let root = Position { parent: 0, level: header.depth, bounds: 0..UNBOUNDED };
         walk.visit(header.root, root)?;
         walk.test_level_ends()?;
     }
     Ok(LeafTotals {
         records: walk.leaf_records,
         first: walk.first_leaf,
-        last: walk.last_met[header.depth],
+        last: walk.last_met[LEAF_LEVEL],
     })
 }
 
@@ -58,7 +61,7 @@ impl Walk<'_> {
         require(new, CHILD, parent)?;
 
         let node = &self.nodes[number as usize];
-        let is_leaf = level == self.depth;
+        let is_leaf = level == LEAF_LEVEL;
         if is_leaf {
             Leaf::test(node, number, level, &bounds)?;
         } else {
@@ -80,7 +83,7 @@ impl Walk<'_> {
         for (index, record) in records.iter().enumerate() {
             let low = packed_key(record);
             let high = records.get(index + 1).map_or(end, packed_key);
-            let position = Position { parent, level: level + 1, bounds: low..high };
+            let position = Position { parent, level: level - 1, bounds: low..high };
             self.visit(child(record), position)?;
         }
         Ok(())
@@ -98,8 +101,9 @@ impl Walk<'_> {
         Ok(())
     }
 
+    /// From the root down.
     fn test_level_ends(&self) -> Result<(), Verdict> {
-        for &last in &self.last_met[1..=self.depth] {
+        for &last in self.last_met[LEAF_LEVEL..=self.depth].iter().rev() {
             let forward = forward_link(&self.nodes[last as usize]);
             require(forward == 0, LINKS, last)?;
         }

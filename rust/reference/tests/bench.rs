@@ -1,4 +1,5 @@
-//! Every image of the paper's section "Images on the bench", with the paper's answer.
+//! Every image of the paper's section "Images on the bench", and one of two levels, with the paper's
+//! answer.
 
 use images::bench::*;
 use reference::{check, lookup, Answer, Key, Lookup, Verdict};
@@ -84,6 +85,73 @@ fn l1_with_a_wrong_back_link() {
     assert_eq!(lookup(&l1_with_back_link_1(), 16, 0x00, 5), refused(7, 1));
     // The asked fork is tested before the image.
     assert_eq!(lookup(&l1_with_back_link_1(), 16, 0x01, 5), refused(11, 0));
+}
+
+/// The bytes of a node: its first 12, its records, its last words.
+fn node_of(start: [u8; 12], records: &[&[u8]], ends: &[u8]) -> [u8; 512] {
+    let mut node = [0; 512];
+    node[..12].copy_from_slice(&start);
+    let records = records.concat();
+    node[14..14 + records.len()].copy_from_slice(&records);
+    node[512 - ends.len()..].copy_from_slice(ends);
+    node
+}
+
+#[test]
+fn two_leaves_bytes() {
+    let image = two_leaves();
+    let first = [0x07, 0x00, 0, 0, 0, 0x10, 0, 5];
+    let second = [0x07, 0xFF, 0, 0, 0, 0x10, 0, 0];
+    let third = [0x07, 0x00, 0, 0, 0, 0x11, 0, 0];
+    let pair = |block: u8, count: u8| [0, block, 0, count, 0, 0, 0, 0, 0, 0, 0, 0];
+    let root = node_of(
+        [0, 0, 0, 0, 0, 0, 0, 0, 0x00, 2, 0, 2],
+        &[&first, &[0, 0, 0, 2], &second, &[0, 0, 0, 3]],
+        &[0x00, 0x26, 0x00, 0x1A, 0x00, 0x0E],
+    );
+    let left = node_of(
+        [0, 0, 0, 3, 0, 0, 0, 0, 0xFF, 1, 0, 1],
+        &[&first, &pair(100, 3)],
+        &[0x00, 0x22, 0x00, 0x0E],
+    );
+    let right = node_of(
+        [0, 0, 0, 0, 0, 0, 0, 2, 0xFF, 1, 0, 2],
+        &[&second, &pair(103, 2), &third, &pair(105, 1)],
+        &[0x00, 0x36, 0x00, 0x22, 0x00, 0x0E],
+    );
+    assert_eq!(image[14..32], [0, 2, 0, 0, 0, 1, 0, 0, 0, 3, 0, 0, 0, 2, 0, 0, 0, 3]);
+    assert_eq!((image[0xF8], &image[36..44]), (0xF0, &[0, 0, 0, 4, 0, 0, 0, 0][..]));
+    assert_eq!(image[512..], [root, left, right].concat());
+}
+
+#[test]
+fn two_leaves_lookups() {
+    let image = two_leaves();
+    assert_eq!(check(&image), verdict(0, 0));
+    let says = |answer, path: [u32; 2], path_len, data| {
+        let path = [path[0], path[1], 0, 0, 0, 0, 0, 0];
+        Lookup { answer, path, path_len, data }
+    };
+    // Past three nodes, the 14 bytes of node 3, its first record and the key of the second.
+    let last = says(Answer::Found { node: 3, record: 1 }, [1, 3], 2, Some(1578..1590));
+    assert_eq!(lookup(&image, 17, 0x00, 0), last);
+    let first = says(Answer::Found { node: 2, record: 0 }, [1, 2], 2, Some(1046..1058));
+    assert_eq!(lookup(&image, 16, 0x00, 5), first);
+    let below_every_pointer = says(Answer::Absent { node: 1 }, [1, 0], 1, None);
+    assert_eq!(lookup(&image, 16, 0x00, 4), below_every_pointer);
+    let between = says(Answer::Absent { node: 2 }, [1, 2], 2, None);
+    assert_eq!(lookup(&image, 16, 0x00, 9), between);
+}
+
+#[test]
+fn two_leaves_with_other_levels() {
+    assert_eq!(two_leaves_with_levels(2, 1), two_leaves());
+    let from_the_root = two_leaves_with_levels(1, 2);
+    assert_eq!(check(&from_the_root), verdict(5, 1));
+    assert_eq!(lookup(&from_the_root, 17, 0x00, 0), refused(5, 1));
+    assert_eq!(check(&two_leaves_with_levels(1, 0)), verdict(5, 1));
+    assert_eq!(check(&two_leaves_with_levels(2, 0)), verdict(5, 2));
+    assert_eq!(check(&two_leaves_with_levels(2, 2)), verdict(5, 2));
 }
 
 #[test]

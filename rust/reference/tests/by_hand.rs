@@ -24,6 +24,10 @@ fn reserved(number: usize) -> Patch {
     Patch::byte(node(number) + 13, 1)
 }
 
+fn level(number: usize, level: u8) -> Patch {
+    Patch::byte(node(number) + 9, level)
+}
+
 fn root(number: u32) -> Patch {
     Patch::long(16, number)
 }
@@ -113,7 +117,7 @@ fn child_numbers() {
 
 #[test]
 fn nodes_in_the_wrong_place() {
-    // A leaf has level 3, but the root must have 1.
+    // A leaf has level 1, but the root must have 3.
     gives(&[root(4)], 5, 4);
     // Free node 8 is all zeros.
     gives(&[child(2, 1, 8)], 5, 8);
@@ -123,6 +127,28 @@ fn nodes_in_the_wrong_place() {
     gives(&[child(2, 1, 6)], 6, 6);
     // Node 3 under pointer 10 of the root must stay below 45.
     gives(&[child(1, 0, 3)], 6, 3);
+}
+
+#[test]
+fn levels() {
+    // The root's level is the depth, each child's one less, the leaves' 1.
+    for (number, right) in [(1, 3), (2, 2), (3, 2), (4, 1), (5, 1), (6, 1), (7, 1)] {
+        for wrong in (0..=255).filter(|&level| level != right) {
+            gives(&[level(number, wrong)], 5, number as u32);
+        }
+    }
+    // Every level of the tree moved along with the depth: what should be an index node is leaf 4,
+    // what should be a leaf is node 2.
+    let moved = |depth: u16, by: i16| {
+        let byte = |number, right: i16| level(number, (right + by) as u8);
+        let leaves = (4..=7).map(|number| byte(number, 1));
+        let index_nodes = [byte(1, 3), byte(2, 2), byte(3, 2)];
+        let depth = [Patch::word(14, depth)];
+        depth.into_iter().chain(index_nodes).chain(leaves).collect::<Vec<_>>()
+    };
+    sound(&moved(3, 0));
+    gives(&moved(4, 1), 5, 4);
+    gives(&moved(2, -1), 5, 2);
 }
 
 #[test]

@@ -10,10 +10,12 @@ fn place_by_table(built: &Built, spoiling: &Spoiling) -> u32 {
         (1 | 2 | 8 | 10, _) => 0,
         // The header's link leads to a node that is no map node; that node is at fault.
         (3, "map_link_to_root") => built.levels[0].numbers[0],
-        // Index nodes are wanted where the leaves are: the first node met there is a leaf.
-        (5, "header_depth_one_over") => built.levels[built.depth() - 1].numbers[0],
-        // Leaves are wanted one level above them: the first node met there is an index node.
-        (5, "header_depth_one_short") => built.levels[built.depth() - 2].numbers[0],
+        // The root's level is the right depth, and the header has another.
+        (5, "header_depth_one_over" | "header_depth_one_short") => built.levels[0].numbers[0],
+        // The leaves have level 2: the first node met that should be an index node is a leaf.
+        (5, "depth_and_levels_one_over") => built.levels[built.depth() - 1].numbers[0],
+        // The nodes above the leaves have level 1: the first of them should be a leaf.
+        (5, "depth_and_levels_one_short") => built.levels[built.depth() - 2].numbers[0],
         // The changed parent is in order by itself, but the child's first key is now too low.
         (6, what) if what.ends_with("above_first_key") => child_of_changed_key(built, spoiling),
         (9, _) => changed_bit(built, spoiling),

@@ -7,6 +7,7 @@ use crate::node::*;
 
 pub fn spoilings(built: &Built) -> Vec<Spoiling> {
     let mut found = wrong_depths(built);
+    found.extend(levels_from_the_root(built));
     for (visit, &member) in visit_order(built).iter().enumerate() {
         let faults = descriptor_faults(built, member)
             .into_iter()
@@ -18,28 +19,54 @@ pub fn spoilings(built: &Built) -> Vec<Spoiling> {
     found
 }
 
-/// With a wrong depth the leaves are looked for on the wrong level, first at the left end.
+/// A wrong depth is not the root's level. Where all levels agree with it, leaves are looked for on
+/// the wrong level, first at the left end.
 fn wrong_depths(built: &Built) -> Vec<Spoiling> {
     let depth = built.depth();
-    let mut found = Vec::new();
+    let mut wrong = Vec::new();
     if (1..8).contains(&depth) {
-        let leaf = built.levels[depth - 1].numbers[0];
-        let patch = Patch::word(14, depth as u16 + 1);
-        let what = "header_depth_one_over".to_string();
-        found.push(spoiling(what, 0, leaf, depth - 1, patch));
+        wrong.push(("one_over", depth + 1, depth - 1));
     }
     if depth > 1 {
-        let index = built.levels[depth - 2].numbers[0];
-        let patch = Patch::word(14, depth as u16 - 1);
-        let what = "header_depth_one_short".to_string();
-        found.push(spoiling(what, 0, index, depth - 2, patch));
+        wrong.push(("one_short", depth - 1, depth - 2));
+    }
+    let mut found = Vec::new();
+    for (how, wrong_depth, visit) in wrong {
+        let root = built.levels[0].numbers[0];
+        let patch = Patch::word(14, wrong_depth as u16);
+        found.push(spoiling(format!("header_depth_{how}"), 0, root, 0, patch.clone()));
+        let first = built.levels[visit].numbers[0];
+        let mut agreeing = spoiling(format!("depth_and_levels_{how}"), 0, first, visit, patch);
+        agreeing.patches.extend(relevelled(built, |index| (wrong_depth - index) as u8));
+        found.push(agreeing);
     }
     found
 }
 
+/// The levels counted from the root down, from 1; a tree of one level has the right ones.
+fn levels_from_the_root(built: &Built) -> Option<Spoiling> {
+    let root = *built.levels.first()?.numbers.first()?;
+    let patches = relevelled(built, |index| index as u8 + 1);
+    let what = "levels_from_the_root".to_string();
+    let moment = Moment::at(Stage::Tree, 0, Step::Form);
+    let whole = Spoiling { what, edited: root, number: 5, place: root, moment, patches };
+    (built.depth() > 1).then_some(whole)
+}
+
+/// Other level bytes for all nodes of the tree, by the index of their level from the root.
+fn relevelled(built: &Built, level_byte: impl Fn(usize) -> u8) -> Vec<Patch> {
+    let mut patches = Vec::new();
+    for (index, level) in built.levels.iter().enumerate() {
+        for &number in &level.numbers {
+            patches.push(Patch::byte(number as usize * NODE_SIZE + 9, level_byte(index)));
+        }
+    }
+    patches
+}
+
 fn descriptor_faults(built: &Built, member: Member) -> Vec<(String, Patch)> {
     let at = member.at(built);
-    let level = member.level as u8 + 1;
+    let level = built.level_byte(member.level);
     let (other_kind, most) = if member.is_leaf(built) {
         (INDEX_KIND, MOST_LEAF_RECORDS)
     } else {
