@@ -1,4 +1,4 @@
-// Those of the paper's bench images that are run and not computed: each is built as the paper says, and checked.
+// Those of the paper's bench images that are run and not computed, and some of two levels: each is built as the paper says, and checked.
 ghost use Prim.Native.Nat.{_≤_};
 use bench_images::put::put8;
 use bench_images::tree::put_empty_tree;

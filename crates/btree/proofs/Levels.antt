@@ -13,7 +13,7 @@ use Rattle.btree.proofs.Leaves.{on-child}
 module _ (v : View) (level : ℕ → ℕ) where
   open View v using (depth, root, count, child)
 
-  -- "the root's level is the depth, each child's is one less than its parent's"
+  -- W-201: "the root's level is the depth, each child's is one less than its parent's"
   pub record Falls : Type 0 where
     pub ofRoot : 0 < depth → level root ≡ depth
     pub ofChild : (d n i : ℕ) → OnLevel v d n → suc d < depth → i < count n → level (child n i) + 1 ≡ level n

@@ -1,4 +1,4 @@
--- How levels count, as the rule is worded: the nodes of a tree are laid out exactly when they keep it and their records fit their kind.
+-- How levels count, as W-201 words it: the nodes of a tree are laid out exactly when they keep it and their records fit their kind.
 -- Assumes nothing.
 use mathlib.Core.Path.{_≡_, sym, _∙_}
 use mathlib.Core.Logic.{_↔_, _⊎_, inl, inr}
@@ -18,6 +18,7 @@ pub record Levels (img : List ℕ) : Type 0 where
   pub falls : Falls (view img) (levelOf img)
   -- "and leaves are exactly the nodes of level 1"
   pub leaves : (d n : ℕ) → OnLevel (view img) d n → (kindOf img n ≡ leafKind) ↔ (levelOf img n ≡ 1)
+  -- "Kinds: 00 index, .. FF leaf": a tree has no others, and each node's records are laid out for its own
   pub kinds : (d n : ℕ) → OnLevel (view img) d n → (kindOf img n ≡ leafKind) ⊎ (kindOf img n ≡ indexKind)
   pub records : (d n : ℕ) → OnLevel (view img) d n → Records img (kindOf img n) n
 

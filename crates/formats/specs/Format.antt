@@ -28,7 +28,7 @@ recordSize kind = cond (ℕ-discrete kind leafKind) 20 12
 unfoldable pub maxRecords : ℕ → ℕ
 maxRecords kind = cond (ℕ-discrete kind leafKind) 22 35
 
--- "leaves are exactly the nodes of level 1"
+-- W-201: "leaves are exactly the nodes of level 1"
 unfoldable pub kindOn : ℕ → ℕ
 kindOn level = cond (ℕ-discrete level 1) leafKind indexKind
 
@@ -65,7 +65,7 @@ module _ (img : List ℕ) where
 
   -- a node d levels below the root of a tree of this depth
   pub record NodeOn (depth n d : ℕ) : Type 0 where
-    -- "the root's level is the depth, each child's is one less than its parent's"
+    -- W-201: "the root's level is the depth, each child's is one less than its parent's"
     pub level : levelOf n + d ≡ depth
     pub records : Records (kindOn (levelOf n)) n
 

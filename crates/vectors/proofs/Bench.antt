@@ -1,4 +1,4 @@
--- The bench images marked * have the answers that the paper gives: each is computed.
+-- The bench images marked *, and those of two levels, have the answers that are listed with them: each is computed.
 -- Assumes nothing.
 use mathlib.Core.Path.{refl}
 use mathlib.Core.Logic.{Dec·and, Dec·not, inl, inr}

@@ -1,4 +1,4 @@
--- The images on the bench that are marked *, and one of two levels: an image, a question about it, and the paper's answer.
+-- The images on the bench that are marked *, and W-201's of two levels: an image, a question about it, and the answer by the paper.
 -- Assumes nothing.
 use mathlib.Core.Path.{_≡_}
 use mathlib.Core.List.{List, [], _∷_}
@@ -69,7 +69,7 @@ bench =
     of L1 (look (asked 16 0x01 5) (11 ∷ 0 ∷ 0 ∷ 0 ∷ 0 ∷ 0 ∷ 0 ∷ 0 ∷ 0 ∷ 0 ∷ 0 ∷ 0 ∷ [])) ∷
     -- "L1 with node 1's back link 1: 7 place 1."
     of (set L1 519 1) (check 7 1) ∷
-    -- "the root's level is the depth, each child's is one less than its parent's, and leaves are exactly the nodes of level 1": sound
+    -- W-201: "the root's level is the depth, each child's is one less than its parent's, and leaves are exactly the nodes of level 1": sound
     of (twoLeaves 2 1 1) (check 0 0) ∷
     -- a key found through the root, and a key below every pointer
     of (twoLeaves 2 1 1) (look (asked 17 0x00 0) (0 ∷ 3 ∷ 1 ∷ 2 ∷ 1 ∷ 3 ∷ 0 ∷ 0 ∷ 0 ∷ 0 ∷ 0 ∷ 0 ∷ [])) ∷

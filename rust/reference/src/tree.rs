@@ -7,11 +7,11 @@ use crate::record::{child, packed_key, Index, Leaf};
 use crate::verdict::{require, Verdict, CHILD, LINKS};
 use std::ops::Range;
 
-/// Levels count from the leaves up; the root's is the depth.
-const LEAF_LEVEL: usize = 1;
-
 /// No packed key reaches this, so it stands for "no bound above".
 const UNBOUNDED: u64 = u64::MAX;
+
+/// Levels count from the leaves up, so the root's level is the depth.
+const LEAF_LEVEL: usize = 1;
 
 /// What the header's leaf fields have to agree with.
 pub struct LeafTotals {
@@ -24,7 +24,7 @@ struct Walk<'a> {
     nodes: &'a [Node],
     depth: usize,
     met: &'a mut NodeSet,
-    /// The node met last on each level, 0 for none.
+    /// The node met last on each level, 0 for none; the levels count from 1.
     last_met: [u32; 9],
     first_leaf: u32,
     leaf_records: u32,
@@ -101,7 +101,7 @@ impl Walk<'_> {
         Ok(())
     }
 
-    /// From the root down.
+    /// The levels come from the root down, so the highest one first.
     fn test_level_ends(&self) -> Result<(), Verdict> {
         for &last in self.last_met[LEAF_LEVEL..=self.depth].iter().rev() {
             let forward = forward_link(&self.nodes[last as usize]);
