@@ -14,7 +14,8 @@ pub fn spoilings(built: &Built) -> Vec<Spoiling> {
             .chain(offset_faults(built, member))
             .chain(key_faults(built, member));
         let number = member.number(built);
-        found.extend(faults.map(|(what, patch)| spoiling(what, number, number, visit, patch)));
+        found
+            .extend(faults.map(|(what, patch)| spoiling(what, number, number, visit, vec![patch])));
     }
     found
 }
@@ -33,24 +34,23 @@ fn wrong_depths(built: &Built) -> Vec<Spoiling> {
     let mut found = Vec::new();
     for (how, wrong_depth, visit) in wrong {
         let root = built.levels[0].numbers[0];
-        let patch = Patch::word(14, wrong_depth as u16);
-        found.push(spoiling(format!("header_depth_{how}"), 0, root, 0, patch.clone()));
+        let mut patches = vec![Patch::word(14, wrong_depth as u16)];
+        found.push(spoiling(format!("header_depth_{how}"), 0, root, 0, patches.clone()));
         let first = built.levels[visit].numbers[0];
-        let mut agreeing = spoiling(format!("depth_and_levels_{how}"), 0, first, visit, patch);
-        agreeing.patches.extend(relevelled(built, |index| (wrong_depth - index) as u8));
-        found.push(agreeing);
+        patches.extend(relevelled(built, |index| (wrong_depth - index) as u8));
+        found.push(spoiling(format!("depth_and_levels_{how}"), 0, first, visit, patches));
     }
     found
 }
 
 /// The levels counted from the root down, from 1; a tree of one level has the right ones.
 fn levels_from_the_root(built: &Built) -> Option<Spoiling> {
-    let root = *built.levels.first()?.numbers.first()?;
+    if built.depth() < 2 {
+        return None;
+    }
+    let root = built.levels[0].numbers[0];
     let patches = relevelled(built, |index| index as u8 + 1);
-    let what = "levels_from_the_root".to_string();
-    let moment = Moment::at(Stage::Tree, 0, Step::Form);
-    let whole = Spoiling { what, edited: root, number: 5, place: root, moment, patches };
-    (built.depth() > 1).then_some(whole)
+    Some(spoiling("levels_from_the_root".to_string(), root, root, 0, patches))
 }
 
 /// Other level bytes for all nodes of the tree, by the index of their level from the root.
@@ -122,13 +122,7 @@ pub fn record_size(built: &Built, member: Member) -> usize {
     }
 }
 
-fn spoiling(what: String, edited: u32, place: u32, visit: usize, patch: Patch) -> Spoiling {
-    Spoiling {
-        what,
-        edited,
-        number: 5,
-        place,
-        moment: Moment::at(Stage::Tree, visit as u32, Step::Form),
-        patches: vec![patch],
-    }
+fn spoiling(what: String, edited: u32, place: u32, visit: usize, patches: Vec<Patch>) -> Spoiling {
+    let moment = Moment::at(Stage::Tree, visit as u32, Step::Form);
+    Spoiling { what, edited, number: 5, place, moment, patches }
 }
