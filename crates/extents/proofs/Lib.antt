@@ -1,7 +1,7 @@
 pub mod Soundness
 pub mod Framing
-pub mod Parts
 pub mod Levels
+pub mod Parts
 pub mod Demands
 pub mod Matches
 pub mod Salvaged

@@ -4,18 +4,17 @@ use mathlib.Core.Path.{_≡_, refl}
 use mathlib.Core.List.{List, List·Memᴰ·not-nil}
 use Prim.Native.Nat.{ℕ, zero, suc, _+_, _≤_, _<_}
 use native.Mathlib.Omega.{arith}
-use native.Mathlib.Decide.{ℕ-discrete}
 use lib.ListN.{length}
 use Rattle.btree.specs.Lists.{_∈_}
 use Rattle.btree.specs.Tree.{leavesAt, OnLevel}
 use Rattle.btree.specs.Header.{depthOf, totalOf, countOf, viewOf}
-use Rattle.btree.proofs.Decisions.{cond-yes}
 use Rattle.btree.proofs.MapBits.{node-inside}
 use Rattle.hfs.specs.Hfs.{hfs}
 use Rattle.hfs.proofs.Hfs.{fits}
-use Rattle.formats.specs.Format.{leafKind, indexKind, kindOn, levelOf, dataAt, Records, view}
+use Rattle.formats.specs.Format.{leafKind, dataAt, Records, view}
 use Rattle.extents.specs.Reader.{Sound}
 use Rattle.formats.proofs.Sizes.{record-inside}
+use Rattle.extents.proofs.Levels.{levels-iff}
 
 -- a leaf is on the lowest level
 pub leaf-level : (img : List ℕ) (n : ℕ) → n ∈ leavesAt (view img) (view img .depth) → (h : ℕ) × (h + 1 ≡ depthOf img) × OnLevel (view img) h n
@@ -29,12 +28,12 @@ leaf-level img n = go (depthOf img) refl
 module _ (img : List ℕ) (s : Sound img) where
   -- a leaf of a sound image is laid out as one, and the image has it
   pub leaf-records : (n : ℕ) → n ∈ leavesAt (view img) (view img .depth) → Records img leafKind n × (n < totalOf img)
-  unfolding viewOf kindOn
+  unfolding viewOf
   leaf-records n m =
       let (h, e, o) = leaf-level img n m in
       let l = s .nodes h n o .level in
-      let k = cond-yes (ℕ-discrete (levelOf img n) 1) leafKind indexKind (omega arith) in
-      (rw k at (s .nodes h n o .records), s .tree .inRange h n o)
+      let v = levels-iff img .0 (s .nodes) in
+      (rw (v .leaves h n o .1 (omega arith)) at (v .records h n o), s .tree .inRange h n o)
 
   pub leaf-inside : (n i : ℕ) → n ∈ leavesAt (view img) (view img .depth) → i < countOf hfs img n → dataAt img n i + 12 ≤ length img
   leaf-inside n i m u =
