@@ -1,6 +1,7 @@
 // Those of the paper's bench images that are run and not computed, and some of two levels: each is built as the paper says, and checked.
 ghost use Prim.Native.Nat.{_≤_};
 use bench_images::put::put8;
+use bench_images::put::put32;
 use bench_images::tree::put_empty_tree;
 use bench_images::tree::put_index_tree;
 use bench_images::tree::put_leaf_tree;
@@ -61,6 +62,29 @@ fn other_levels(name: &[u8], root: u32, leaves: u32) {
     say_other_levels(name, &mut image, root, leaves);
 }
 
+// A root over two leaves, of the files 1 and 2, with the low half of a file number and the start block of one of its keys, at this byte.
+fn say_other_pointer(name: &[u8], image: &mut [u8], at: usize, key: u32)
+    requires { ⌜ at ≤ 4000100 ⌝ }
+{
+    put_index_tree(image, 2, 0x0026, 0xF000_0000, 0);
+    put32(image, at, key);
+    say(name, image);
+}
+
+fn other_pointer(name: &[u8], at: usize, key: u32)
+    requires { ⌜ at ≤ 4000100 ⌝ }
+{
+    let mut image = [0u8; 2048];
+    say_other_pointer(name, &mut image, at, key);
+}
+
+fn pointers() {
+    other_pointer(b"pointer 0 below", 530, 0x0000_0000);
+    other_pointer(b"pointer 0 above", 530, 0x0001_0001);
+    other_pointer(b"pointer 1 below", 542, 0x0001_0001);
+    other_pointer(b"pointer 1 above", 542, 0x0002_0001);
+}
+
 fn two_levels() {
     index_records(b"levels 2, 1", 2, 0x0026, 0xF000_0000, 0);
     other_levels(b"levels 1, 2", 1, 2);
@@ -100,6 +124,7 @@ fn main() {
     index_records(b"35 index records", 35, 0x01B2, 0xFFFF_FFFF, 0xF8);
     index_records(b"36 index records", 36, 0x01BE, 0xFFFF_FFFF, 0xFC);
     two_levels();
+    pointers();
     nodes_2048();
     nodes_2049();
     map_loop();

@@ -1,13 +1,14 @@
 -- A bound on keys as the code has it, 2 ^ 56 for none, and the bound that it stands for.
 -- Assumes nothing.
 use mathlib.Core.Path.{_≡_, refl}
+use mathlib.Core.Logic.{_↔_}
 use mathlib.Core.Bool.{Bool, true, false}
 use mathlib.Core.Option.{none, some}
 use Prim.Native.Nat.{ℕ, _<_}
 use native.Mathlib.Omega.{arith}
 use lib.Dec.{eqb}
 use borrow.Author.Tests.{ne-eqb, eqb-true}
-use Rattle.btree.specs.Walk.{Under}
+use Rattle.btree.specs.Walk.{Under, Meets}
 use Rattle.formats.specs.Tells.{pick}
 use Rattle.formats.specs.Bound.{bound}
 
@@ -34,3 +35,12 @@ bound-under k high l u = go (eqb high 72057594037927936) refl u
     go : (b : Bool) → eqb high 72057594037927936 ≡ b → Under k (pick b none (some high)) → k < high
     go true e w = let q = eqb-true high 72057594037927936 e in omega arith
     go false e w = w
+
+-- no key points at the root
+pub no-pointer : (k : ℕ) → Meets k (bound 72057594037927936)
+unfolding bound
+no-pointer k = tt
+
+pub pointer-meets : (k low : ℕ) → (low ≡ 72057594037927936 → ⊥) → Meets k (bound low) ↔ (k ≡ low)
+unfolding bound
+pointer-meets k low h = rw (ne-eqb low 72057594037927936 h) (λ e. e, λ e. e)

@@ -3,13 +3,15 @@
 use mathlib.Core.Path.{_≡_}
 use mathlib.Core.Bool.{true, false}
 use mathlib.Core.List.{List}
-use Prim.Native.Nat.{ℕ}
+use Prim.Native.Nat.{ℕ, suc}
 use native.Mathlib.Omega.{arith}
 use Rattle.btree.specs.Decide.{says}
-use Rattle.btree.specs.Header.{viewOf}
+use Rattle.btree.specs.Header.{countOf, viewOf}
 use Rattle.btree.specs.Walk.{decOrdered}
 use Rattle.btree.proofs.Decisions.{says-no, says-same, said, unsaid}
-use Rattle.formats.specs.Format.{leafKind, decRecords, view}
+use Rattle.btree.proofs.Keys.{from-before}
+use Rattle.hfs.specs.Hfs.{hfs}
+use Rattle.formats.specs.Format.{leafKind, keyOf, decRecords, view}
 use Rattle.formats.specs.Whole.{decWholeLeaf}
 use Rattle.formats.specs.Bound.{bound}
 
@@ -18,9 +20,9 @@ module _ (img : List ℕ) (n : ℕ) where
   whole-records e = says-no (decWholeLeaf img n) (λ w. unsaid (decRecords img leafKind n) e (w .records))
 
   -- no bound but 2 ^ 56, which is none
-  pub whole-says : says (decRecords img leafKind n) ≡ true → says (decOrdered (view img) 0 (bound 72057594037927936) n) ≡ says (decWholeLeaf img n)
+  pub whole-says : says (decRecords img leafKind n) ≡ true → says (decOrdered (view img) (bound 72057594037927936) (bound 72057594037927936) n) ≡ says (decWholeLeaf img n)
   unfolding viewOf bound
   whole-says e =
-      says-same (decOrdered (view img) 0 (bound 72057594037927936) n) (decWholeLeaf img n)
-      (λ o. record { records = said (decRecords img leafKind n) e; ascend = o .rise })
-      (λ w. record { rise = w .ascend; within = λ i u. (omega arith, tt) })
+      says-same (decOrdered (view img) (bound 72057594037927936) (bound 72057594037927936) n) (decWholeLeaf img n)
+      (λ o. record { records = said (decRecords img leafKind n) e; ascend = λ i u. o (suc i) u .rise (omega arith) })
+      (λ w. λ i u. record { rise = from-before (keyOf img n) (countOf hfs img n) (w .ascend) i u; over = tt; under = tt; first = λ e. tt })

@@ -1,10 +1,10 @@
 // The tests of a node by itself: 5, 6, and whether it is a whole leaf.
 ghost use mathlib.Core.Path.{_≡_};
-ghost use Prim.Native.Nat.{ℕ, suc, _+_, _-_, _*_, _<_, _≤_};
+ghost use Prim.Native.Nat.{ℕ, suc, _+_, _-_, _*_, pred, _<_, _≤_};
 ghost use lib.ListN.{getD};
 ghost use Rattle.image.specs.Bytes.{be16At};
 ghost use Rattle.btree.specs.Decide.{says};
-ghost use Rattle.btree.specs.Walk.{decOrdered};
+ghost use Rattle.btree.specs.Walk.{Under, Meets, decOrdered};
 ghost use Rattle.formats.specs.Key.{Lawful};
 ghost use Rattle.formats.specs.Format.{kindOn, recordAt, decRecords, view};
 ghost use Rattle.formats.specs.Whole.{decWholeLeaf};
@@ -12,6 +12,7 @@ ghost use Rattle.formats.specs.Tells.{Tells};
 ghost use Rattle.formats.specs.Bound.{bound};
 use super::key::is_lawful;
 use super::key::key_at;
+use super::records::key_of;
 use super::records::max_records;
 use super::records::record_at;
 use super::records::record_size;
@@ -105,14 +106,27 @@ pub fn node_right(image: &[u8], node: u32, above: u32) -> bool
     records_right(image, node, kind_on(level))
 }
 
-// Test 6: the keys strictly ascend, from `low` up and below `high`.
-pub fn keys_ordered(image: &[u8], node: u32, low: u64, high: u64) -> bool
-    ensures { λ r. ⌜ r ≡ says (decOrdered (view (now (image .entry))) low (bound high) node) ⌝ }
+// The first key is the one that points at the node; 2 ^ 56 is the root's, which no key points at.
+fn first_meets(image: &[u8], node: u32, low: u64) -> bool
+    ensures { λ r. ⌜ Tells r (0 < view (now (image .entry)) .count node → Meets (view (now (image .entry)) .key node 0) (bound low)) ⌝ }
+{
+    if low == 72_057_594_037_927_936 {
+        return true;
+    }
+    if count_of(image, node) == 0 {
+        return true;
+    }
+    key_of(image, node, 0) == low
+}
+
+// The keys strictly ascend, below `high`.
+fn keys_rise(image: &[u8], node: u32, high: u64) -> bool
+    ensures { λ r. ⌜ Tells r ((i : ℕ) → i < view (now (image .entry)) .count node → (0 < i → view (now (image .entry)) .key node (pred i) < view (now (image .entry)) .key node i) × Under (view (now (image .entry)) .key node i) (bound high)) ⌝ }
 {
     let c = count_of(image, node);
     let step = record_step(image, node);
     let mut at = record_at(image, node, 0);
-    let mut next = low;
+    let mut next: u64 = 0;
     let mut i: u32 = 0;
     while i < c {
         let key = key_at(image, at);
@@ -129,6 +143,16 @@ pub fn keys_ordered(image: &[u8], node: u32, low: u64, high: u64) -> bool
     true
 }
 
+// Test 6. Keys that ascend from the one that points at the node are not below it, so no other is held against it.
+pub fn keys_ordered(image: &[u8], node: u32, low: u64, high: u64) -> bool
+    ensures { λ r. ⌜ r ≡ says (decOrdered (view (now (image .entry))) (bound low) (bound high) node) ⌝ }
+{
+    if !first_meets(image, node, low) {
+        return false;
+    }
+    keys_rise(image, node, high)
+}
+
 // A node counts whatever its level and its links.
 pub fn is_whole(image: &[u8], node: u32) -> bool
     ensures { λ r. ⌜ r ≡ says (decWholeLeaf (now (image .entry)) node) ⌝ }
@@ -136,5 +160,5 @@ pub fn is_whole(image: &[u8], node: u32) -> bool
     if !records_right(image, node, 255) {
         return false;
     }
-    keys_ordered(image, node, 0, 72_057_594_037_927_936)
+    keys_ordered(image, node, 72_057_594_037_927_936, 72_057_594_037_927_936)
 }

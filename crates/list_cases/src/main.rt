@@ -26,11 +26,13 @@ fn main() {
     case(b"leaf_22_records");
     case(b"leaf_23_records");
     case(b"two_leaves");
+    case(b"two_leaves_pointer_below_first_key");
     case(b"two_level");
-    case(b"two_level_levels_from_the_root_in_node_8");
-    case(b"two_level_child_33_is_parent_in_node_8");
-    case(b"two_level_last_key_at_next_pointer_in_node_40");
-    case(b"two_level_forward_link_0_in_node_40");
+    case(b"two_level_levels_from_the_root_in_node_63");
+    case(b"two_level_child_33_is_parent_in_node_63");
+    case(b"two_level_last_key_at_next_pointer_in_node_60");
+    case(b"two_level_pointer_32_far_below_first_key_in_node_63");
+    case(b"two_level_forward_link_0_in_node_60");
     case(b"two_level_leaf_records_one_short_in_node_0");
     case(b"three_level");
     case(b"longest_listed");

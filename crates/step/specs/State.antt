@@ -17,7 +17,7 @@ use Rattle.step.specs.declared.state.Walk.{Walk}
 
 -- a node as the code comes to it
 abbrev pub entry : ℕ → ℕ → ℕ → ℕ → ℕ → Entry
-entry n parent d low high = record { node = n; parent = parent; level = d; low = low; high = bound high }
+entry n parent d low high = record { node = n; parent = parent; level = d; low = bound low; high = bound high }
 
 -- test 4: the bits set are those of the header, the map chain and the nodes met
 unfoldable pub freshIn : ℕ → List ℕ → ℕ → Bool

@@ -61,7 +61,7 @@ pub fn tested(
     if !keys_ordered(image, node, low, high) {
         return Verdict {
             number: 6,
-            place: node,
+            place: node, // the child, where it is the pointer key that differs
         };
     }
     if back_of(image, node) != p {

@@ -1,4 +1,5 @@
--- The images on the bench that are marked *, and W-201's of two levels: an image, a question about it, and the answer by the paper.
+-- The images on the bench that are marked *, W-201's of two levels and W-205's of other pointer keys: an image, a question about it, and the answer by the
+-- paper or the request.
 -- Assumes nothing.
 use mathlib.Core.Path.{_≡_}
 use mathlib.Core.List.{List, [], _∷_}
@@ -11,7 +12,7 @@ use Rattle.btree.specs.Numbers.{lookupReply}
 use Rattle.formats.specs.declared.key.Key.{Key}
 use Rattle.formats.specs.Key.{Lawful, packed, compared, asked}
 use Rattle.extents.specs.Reader.{verdict, lookedUp}
-use Rattle.vectors.specs.Build.{E1, L1, twoLeaves}
+use Rattle.vectors.specs.Build.{keyBytes, E1, L1, twoLeaves, twoLeavesUnder, threeLevelsUnder}
 
 -- the numbers of a reply and of the search path beside it
 abbrev pub numbersOf : Lookup → List ℕ
@@ -78,6 +79,15 @@ bench =
     of (twoLeaves 1 2 2) (check 5 1) ∷
     of (twoLeaves 2 0 0) (check 5 2) ∷
     of (twoLeaves 2 1 2) (check 5 3) ∷
+    -- W-205: "a pointer key equals the first key of its child, else 6 with the child as the place": below it, which all other rules allow, and so refused
+    of (twoLeavesUnder (keyBytes 0x10 0x00 5) (keyBytes 0x10 0x00 6)) (check 6 3) ∷
+    of (twoLeavesUnder (keyBytes 0x10 0x00 5) (keyBytes 0x10 0x00 6)) (look (asked 16 0xFF 0) (6 ∷ 3 ∷ 0 ∷ 0 ∷ 0 ∷ 0 ∷ 0 ∷ 0 ∷ 0 ∷ 0 ∷ 0 ∷ 0 ∷ [])) ∷
+    of (twoLeavesUnder (keyBytes 0x10 0x00 4) (keyBytes 0x10 0xFF 0)) (check 6 2) ∷
+    -- at the child's last key
+    of (twoLeavesUnder (keyBytes 0x10 0x00 5) (keyBytes 0x11 0x00 0)) (check 6 3) ∷
+    -- over an index node: its first key, and one below
+    of (threeLevelsUnder (keyBytes 0x10 0x00 5)) (check 0 0) ∷
+    of (threeLevelsUnder (keyBytes 0x10 0x00 4)) (check 6 2) ∷
     -- "Order: (16, 00, 9) below (16, FF, 0) below (17, 00, 0); packed 268,435,465, 285,147,136, 285,212,672."
     of [] (compares (asked 16 0x00 9) (asked 16 0xFF 0) (negsuc 0)) ∷
     of [] (compares (asked 16 0xFF 0) (asked 17 0x00 0) (negsuc 0)) ∷

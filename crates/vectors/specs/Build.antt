@@ -42,17 +42,33 @@ onePair first count = be16 first ++ be16 count ++ be32 0 ++ be32 0
 abbrev pub E1 : List ℕ
 E1 = header (be16 0 ++ be32 0 ++ be32 0 ++ be32 0 ++ be32 0) 1 0x80
 
--- "header with depth, root, leaf records, first and last leaf 1, total 2, free 0, map byte C0. Node 1: links 0, FF, level 1, count 1,
--- record 07 00 00000010 0005 0064 0003 and eight zero bytes, end 0022 000E."
-abbrev pub L1 : List ℕ
-L1 =
-    header (be16 1 ++ be32 1 ++ be32 1 ++ be32 1 ++ be32 1) 2 0xC0
-    ++ node (be32 0 ++ be32 0 ++ 0xFF ∷ 1 ∷ be16 1) (keyBytes 0x10 0x00 5 ++ onePair 0x64 3) (be16 0x22 ++ be16 0xE)
+-- "links 0, FF, level 1, count 1, record 07 00 00000010 0005 0064 0003 and eight zero bytes, end 0022 000E"
+abbrev onlyLeaf : List ℕ
+onlyLeaf = node (be32 0 ++ be32 0 ++ 0xFF ∷ 1 ∷ be16 1) (keyBytes 0x10 0x00 5 ++ onePair 0x64 3) (be16 0x22 ++ be16 0xE)
 
--- Two levels: the root, node 1, points at the leaves 2 and 3, which have one record and two. The level bytes of the three nodes are given.
-abbrev pub twoLeaves : ℕ → ℕ → ℕ → List ℕ
-twoLeaves level1 level2 level3 =
+-- "header with depth, root, leaf records, first and last leaf 1, total 2, free 0, map byte C0. Node 1:" that leaf
+abbrev pub L1 : List ℕ
+L1 = header (be16 1 ++ be32 1 ++ be32 1 ++ be32 1 ++ be32 1) 2 0xC0 ++ onlyLeaf
+
+-- Two levels: the root, node 1, points at the leaves 2 and 3, which have one record and two. The root's two keys and the level bytes of the three
+-- nodes are given.
+abbrev twoLevels : List ℕ → List ℕ → ℕ → ℕ → ℕ → List ℕ
+twoLevels key1 key2 level1 level2 level3 =
     header (be16 2 ++ be32 1 ++ be32 3 ++ be32 2 ++ be32 3) 4 0xF0
-    ++ node (be32 0 ++ be32 0 ++ 0x00 ∷ level1 ∷ be16 2) (keyBytes 0x10 0x00 5 ++ be32 2 ++ keyBytes 0x10 0xFF 0 ++ be32 3) (be16 0x26 ++ be16 0x1A ++ be16 0xE)
+    ++ node (be32 0 ++ be32 0 ++ 0x00 ∷ level1 ∷ be16 2) (key1 ++ be32 2 ++ key2 ++ be32 3) (be16 0x26 ++ be16 0x1A ++ be16 0xE)
     ++ node (be32 3 ++ be32 0 ++ 0xFF ∷ level2 ∷ be16 1) (keyBytes 0x10 0x00 5 ++ onePair 0x64 3) (be16 0x22 ++ be16 0xE)
     ++ node (be32 0 ++ be32 2 ++ 0xFF ∷ level3 ∷ be16 2) (keyBytes 0x10 0xFF 0 ++ onePair 0x67 2 ++ keyBytes 0x11 0x00 0 ++ onePair 0x69 1) (be16 0x36 ++ be16 0x22 ++ be16 0xE)
+
+abbrev pub twoLeaves : ℕ → ℕ → ℕ → List ℕ
+twoLeaves = twoLevels (keyBytes 0x10 0x00 5) (keyBytes 0x10 0xFF 0)
+
+abbrev pub twoLeavesUnder : List ℕ → List ℕ → List ℕ
+twoLeavesUnder key1 key2 = twoLevels key1 key2 2 1 1
+
+-- Three levels of one node each: the root, node 1, points at node 2, and that at node 3, L1's leaf. The root's key is given.
+abbrev pub threeLevelsUnder : List ℕ → List ℕ
+threeLevelsUnder key =
+    header (be16 3 ++ be32 1 ++ be32 1 ++ be32 3 ++ be32 3) 4 0xF0
+    ++ node (be32 0 ++ be32 0 ++ 0x00 ∷ 3 ∷ be16 1) (key ++ be32 2) (be16 0x1A ++ be16 0xE)
+    ++ node (be32 0 ++ be32 0 ++ 0x00 ∷ 2 ∷ be16 1) (keyBytes 0x10 0x00 5 ++ be32 3) (be16 0x1A ++ be16 0xE)
+    ++ onlyLeaf

@@ -192,7 +192,7 @@ module _ (v : View) (small : v .total ≤ 6000) (shallow : v .depth ≤ 8) where
   unfolding walk finish steps
   tree-none w a e = sym (if-zero (w .number) _ _ (a .number)) ∙ ap (λ (k : ℕ). finish v (steps v w (treeEntries v k))) (sym e) ∙ tree-walk w a
 
-  module _ (w x : Walk) (a : Agrees v w []) (n : v .depth ≡ 0 → ⊥) (is : x ≡ steps v w (entries v (v .depth - 1) 0 0 0 none (v .root))) where
+  module _ (w x : Walk) (a : Agrees v w []) (n : v .depth ≡ 0 → ⊥) (is : x ≡ steps v w (entries v (v .depth - 1) 0 0 none none (v .root))) where
     found : finish v x ≡ walk v
     found = rw is (let e : v .depth ≡ suc (v .depth - 1) = omega arith in ap (λ (k : ℕ). finish v (steps v w (treeEntries v k))) (sym e) ∙ tree-walk w a)
 

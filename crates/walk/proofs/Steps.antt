@@ -1,7 +1,7 @@
 -- The steps along the entries below a node, in the code's terms: from record i to i + 1, of c.
 -- Assumes nothing.
 use mathlib.Core.Path.{_≡_, refl, ap, _∙_}
-use mathlib.Core.Option.{Option}
+use mathlib.Core.Option.{Option, some}
 use mathlib.Core.List.{List, [], _∷_, _++_}
 use Prim.Native.Nat.{ℕ, suc, _+_, _-_, _<_, _≤_}
 use native.Mathlib.Omega.{arith}
@@ -30,9 +30,9 @@ module _ (v : View) where
 
   -- the entries below record i of the node n, on level d, with h levels below the records' children
   abbrev pub kid : ℕ → ℕ → Option ℕ → ℕ → ℕ → List Entry
-  kid h d hi n i = entries v h (suc d) n (v .key n i) (above v n i hi) (v .child n i)
+  kid h d hi n i = entries v h (suc d) n (some (v .key n i)) (above v n i hi) (v .child n i)
 
-  module _ (w : Walk) (b d pa lo n : ℕ) (hi : Option ℕ) where
+  module _ (w : Walk) (b d pa : ℕ) (lo hi : Option ℕ) (n : ℕ) where
     pub steps-leaf : b ≡ 0 → steps v w (entries v b d pa lo hi n) ≡ step v w (record { node = n; parent = pa; level = d; low = lo; high = hi })
     unfolding steps
     steps-leaf e = rw e
@@ -48,7 +48,7 @@ module _ (v : View) where
   kids-end f w c i h = rw (none-left c i h)
 
   pub kids-on : (h d n high : ℕ) (w r : Walk) (c i : ℕ) (p : Pointer) → i < c → Points v n i high p
-      → r ≡ steps v w (entries v h (d + 1) n (p .low) (bound (p .high)) (p .child))
+      → r ≡ steps v w (entries v h (d + 1) n (bound (p .low)) (bound (p .high)) (p .child))
       → steps v w (span i (c - i) (kid h d (bound high) n)) ≡ steps v r (span (i + 1) (c - (i + 1)) (kid h d (bound high) n))
   kids-on h d n high w r c i p l q e =
       ap (λ (k : ℕ). steps v w (span i k (kid h d (bound high) n))) (one-more c i l)

@@ -1,6 +1,7 @@
 -- A visit of a node, with all below it: steps one after another, and where a record leads.
 -- Assumes nothing.
 use mathlib.Core.Path.{_≡_}
+use mathlib.Core.Option.{some}
 use mathlib.Core.List.{List, [], _∷_}
 use Prim.Native.Nat.{ℕ}
 use Rattle.btree.specs.Tree.{View}
@@ -14,8 +15,8 @@ unfoldable pub steps : View → Walk → List Entry → Walk
 steps v w [] = w
 steps v w (e ∷ es) = steps v (step v w e) es
 
--- record i of a node, and the bounds of the keys below it
+-- record i of a node: its child, the key that points there, and the bound of the keys there
 pub record Points (v : View) (n i high : ℕ) (p : Pointer) : Type 0 where
   pub child : p .child ≡ v .child n i
-  pub low : p .low ≡ v .key n i
+  pub low : bound (p .low) ≡ some (v .key n i)
   pub under : bound (p .high) ≡ above v n i (bound high)

@@ -28,11 +28,13 @@ pub fn tree_tests(image: &[u8], visited: Visited, nodes: u32) -> Walk
     };
     let depth = be16(image, 14);
     if depth == 0 {
-        let none = closing_tests(image, w);
-        return stopped_at(w, none);
+        let t = closing_tests(image, w);
+        return stopped_at(w, t);
     }
     let root = be32(image, 16);
-    let x = visit(image, w, root, 0, 0, depth - 1, 0, 72_057_594_037_927_936);
+    // No key points at the root, and none bounds it.
+    let none: u64 = 72_057_594_037_927_936;
+    let x = visit(image, w, root, 0, 0, depth - 1, none, none);
     if x.number != 0 {
         return x;
     }

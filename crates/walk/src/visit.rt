@@ -12,14 +12,14 @@ use hfs::node::count_of;
 use step::state::Walk;
 use step::stepped;
 
-// A record of an index node: the child, and the bounds of the keys below it.
+// A record of an index node: the child, the key that points at it, and the bound of the keys there.
 pub struct Pointer {
     pub child: u32,
     pub low: u64,
     pub high: u64,
 }
 
-// Record i of c: where it leads, and the bounds of the keys there.
+// Record i of c: where it leads, from which key, and the bound of the keys there.
 fn pointer_at(image: &[u8], node: u32, i: u32, c: u32, high: u64) -> Pointer
     requires { ⌜ (i < 65535) × (c ≡ view (now image) .count node) ⌝ }
     ensures { λ r. ⌜ Points (view (now (image .entry))) node i high r ⌝ }
@@ -49,7 +49,7 @@ pub fn visit(
     high: u64,
 ) -> Walk
     requires { ⌜ Ready (now image) level below w ⌝ }
-    ensures { λ r. ⌜ Gives r (steps (view (now (image .entry))) w (entries (view (now (image .entry))) below level parent low (bound high) node)) ⌝ }
+    ensures { λ r. ⌜ Gives r (steps (view (now (image .entry))) w (entries (view (now (image .entry))) below level parent (bound low) (bound high) node)) ⌝ }
 {
     let mut x = stepped(image, w, node, parent, level, below, low, high);
     if below == 0 {

@@ -14,11 +14,10 @@ pub fn always() -> [Key; 4] {
     ]
 }
 
-/// Every leaf key and pointer key of a built tree, with the lawful keys right beside it.
+/// Every leaf key of a built tree, pointer keys among them, with the lawful keys right beside it.
 pub fn with_neighbours(built: &Built) -> Vec<Key> {
     let leaf_keys = built.records.iter().map(|record| record.key);
-    let pointers = built.levels.iter().flat_map(|level| level.pointers.iter().copied());
-    let mut keys: Vec<Key> = leaf_keys.chain(pointers).flat_map(beside).collect();
+    let mut keys: Vec<Key> = leaf_keys.flat_map(beside).collect();
     keys.extend(always());
     keys.sort_unstable();
     keys.dedup();

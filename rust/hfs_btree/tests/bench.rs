@@ -3,7 +3,9 @@
 use hfs_btree::{check, lookup, salvage, Answer, Lookup, Salvage, SalvageAnswer, Verdict};
 use images::bench::{
     e1, e1_with_map_byte, l1, l1_with_back_link_1, two_leaves, two_leaves_with_levels,
+    two_leaves_with_pointer,
 };
+use images::Key;
 
 const NO_DATA: [u8; 12] = [0; 12];
 
@@ -56,6 +58,17 @@ fn two_levels() {
     assert_eq!(check(&from_the_root), Verdict { number: 5, place: 1 });
     let refused = answered(Answer::Refused { number: 5, place: 1 });
     assert_eq!(lookup(&from_the_root, 17, 0x00, 0), refused);
+}
+
+#[test]
+fn pointers_that_do_not_match() {
+    // In order and within all bounds, but below the first key of leaf 3.
+    let below = two_leaves_with_pointer(1, Key::new(16, 0x00, 6));
+    assert_eq!(check(&below), Verdict { number: 6, place: 3 });
+    let refused = answered(Answer::Refused { number: 6, place: 3 });
+    assert_eq!(lookup(&below, 16, 0xFF, 0), refused);
+    let first_below = two_leaves_with_pointer(0, Key::new(16, 0x00, 4));
+    assert_eq!(check(&first_below), Verdict { number: 6, place: 2 });
 }
 
 #[test]

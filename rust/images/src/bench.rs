@@ -121,6 +121,14 @@ pub fn two_leaves_with_levels(root: u8, leaves: u8) -> Vec<u8> {
     image
 }
 
+/// The same tree with another key in one record of the root.
+pub fn two_leaves_with_pointer(record: usize, key: Key) -> Vec<u8> {
+    let mut image = two_leaves();
+    let at = NODE_SIZE + RECORDS_AT + record * INDEX_RECORD_SIZE;
+    image[at..at + 8].copy_from_slice(&key.bytes());
+    image
+}
+
 /// Two nodes: the header is linked to a map node that is linked to itself.
 pub fn map_node_linked_to_itself() -> Vec<u8> {
     let fields = HeaderFields { forward: 1, total: 2, ..HeaderFields::default() };

@@ -27,7 +27,7 @@ pub struct Level {
     pub numbers: Vec<u32>,
     /// Of each node: its children on the level below, or its records if it is a leaf.
     pub groups: Vec<Range<usize>>,
-    /// Of each node: the key of the pointer record that leads to it.
+    /// Of each node: its first key, which the pointer record that leads to it has as well.
     pub pointers: Vec<Key>,
 }
 
@@ -57,7 +57,7 @@ pub fn build(plan: &Plan) -> Built {
         groups.push(record_groups);
     }
     let records = make_records(&mut rng, record_count);
-    let shape = add_pointers(&mut rng, plan, groups, &records);
+    let shape = add_pointers(groups, &records);
     let numbering = number_nodes(&mut rng, plan);
     let Numbering { map_chain, levels, free } = numbering;
     let levels = levels

@@ -8,18 +8,18 @@ use crate::node::*;
 /// All keys are of data forks from block 0, so a file number stands for its key:
 ///
 /// ```text
-///                 1: 10 45
-///        2: 10 25          3: 50 70
+///                 1: 10 50
+///        2: 10 30          3: 50 70
 ///   4: 10 20  5: 30 40  6: 50 60  7: 70 80
 /// ```
 ///
-/// The pointers 45 and 25 lie below the first keys of their children, 50 and 30.
+/// Every pointer has the first key of its child, so that 10 and 50 stand on all three levels.
 pub fn three_levels_by_hand() -> Vec<u8> {
     let mut image = vec![0; 11 * NODE_SIZE];
     put(&mut image, 0, |node| write_header(node, &HEADER));
     put(&mut image, 10, |node| write_map(node, 0));
-    put_index(&mut image, 1, (0, 0, 3), [(10, 2), (45, 3)]);
-    put_index(&mut image, 2, (0, 3, 2), [(10, 4), (25, 5)]);
+    put_index(&mut image, 1, (0, 0, 3), [(10, 2), (50, 3)]);
+    put_index(&mut image, 2, (0, 3, 2), [(10, 4), (30, 5)]);
     put_index(&mut image, 3, (2, 0, 2), [(50, 6), (70, 7)]);
     put_leaf(&mut image, 4, (0, 5), [10, 20]);
     put_leaf(&mut image, 5, (4, 6), [30, 40]);

@@ -17,8 +17,6 @@ pub struct Plan {
     pub free_nodes: usize,
     /// Node numbers in no order, instead of level by level with the free nodes last.
     pub shuffled: bool,
-    /// Pointer keys anywhere between the last key before the child and its first key.
-    pub loose_pointers: bool,
     /// Free nodes hold what was once in them, instead of zeros.
     pub old_garbage: bool,
     /// Bytes that no rule judges hold noise, instead of zeros.
@@ -35,7 +33,6 @@ impl Plan {
             map_nodes: 0,
             free_nodes: 0,
             shuffled: false,
-            loose_pointers: false,
             old_garbage: false,
             noise: false,
         }
@@ -47,7 +44,6 @@ impl Plan {
             records_per_leaf: 1..=MOST_LEAF_RECORDS,
             free_nodes: 9,
             shuffled: true,
-            loose_pointers: true,
             old_garbage: true,
             noise: true,
             ..Plan::tidy(seed, level_sizes)
@@ -66,7 +62,6 @@ impl Plan {
             map_nodes: rng.index(3),
             free_nodes: rng.index(12),
             shuffled: rng.flip(),
-            loose_pointers: rng.flip(),
             old_garbage: rng.flip(),
             noise: rng.flip(),
         }

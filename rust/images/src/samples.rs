@@ -33,5 +33,5 @@ pub fn three_level_large() -> Built {
 /// The header and the map node leave 5,998 nodes; 5,825 leaves need 167 + 5 + 1 index nodes, which
 /// is just that, and 5,826 leaves would need one node more.
 pub fn largest() -> Built {
-    build(&Plan { shuffled: true, loose_pointers: true, ..Plan::tidy(5, &[1, 5, 167, 5_825]) })
+    build(&Plan { shuffled: true, ..Plan::tidy(5, &[1, 5, 167, 5_825]) })
 }

@@ -10,7 +10,7 @@ use std::ops::Range;
 pub struct ShapeLevel {
     /// Of each node: its children on the level below, or its records if it is a leaf.
     pub groups: Vec<Range<usize>>,
-    /// Of each node: the key of the pointer record that leads to it.
+    /// Of each node: its first key, which the pointer record that leads to it has as well.
     pub pointers: Vec<Key>,
 }
 
@@ -51,38 +51,18 @@ pub fn make_records(rng: &mut Rng, count: usize) -> Vec<Record> {
         .collect()
 }
 
-/// The pointer keys over every level, worked out from the leaves up.
-pub fn add_pointers(
-    rng: &mut Rng,
-    plan: &Plan,
-    groups: Vec<Vec<Range<usize>>>,
-    records: &[Record],
-) -> Vec<ShapeLevel> {
+/// The pointer keys over every level, each the first key of its child.
+pub fn add_pointers(groups: Vec<Vec<Range<usize>>>, records: &[Record]) -> Vec<ShapeLevel> {
     let mut levels: Vec<ShapeLevel> = Vec::new();
-    // Of each node of the level below: its first record in leaf order and its own first key.
-    let mut below: Vec<(usize, Key)> = records.iter().map(|r| r.key).enumerate().collect();
+    // The keys on a level are the pointers to the level below, so the leaves come first.
+    let mut keys: Vec<Key> = records.iter().map(|record| record.key).collect();
     for groups in groups.into_iter().rev() {
-        let firsts: Vec<(usize, Key)> = groups.iter().map(|group| below[group.start]).collect();
-        let pointers: Vec<Key> = firsts
-            .iter()
-            .map(|&(first_record, first_key)| {
-                pointer_key(rng, plan.loose_pointers, &records[..first_record], first_key)
-            })
-            .collect();
-        below = firsts.iter().map(|first| first.0).zip(pointers.iter().copied()).collect();
+        let pointers: Vec<Key> = groups.iter().map(|group| keys[group.start]).collect();
+        keys.clone_from(&pointers);
         levels.push(ShapeLevel { groups, pointers });
     }
     levels.reverse();
     levels
-}
-
-/// A key above all records before the child and not above the child's first key.
-fn pointer_key(rng: &mut Rng, loose: bool, before: &[Record], first_key: Key) -> Key {
-    if !loose {
-        return first_key;
-    }
-    let lowest = before.last().map_or(0, |record| record.key.rank() + 1);
-    Key::from_rank(rng.between(lowest, first_key.rank()))
 }
 
 fn share(rng: &mut Rng, items: usize, parts: usize, most: usize) -> Vec<usize> {

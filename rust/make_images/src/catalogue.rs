@@ -4,7 +4,7 @@ use images::bench::*;
 use images::by_hand::three_levels_by_hand;
 use images::samples;
 use images::spoil::{spoilings, Spoiling};
-use images::Built;
+use images::{Built, Key};
 use std::collections::BTreeMap;
 
 /// An image with the name of its file.
@@ -15,6 +15,7 @@ pub struct Sample {
 
 pub fn catalogue() -> Vec<Sample> {
     let mut all = bench_samples();
+    all.extend(pointer_samples());
     all.push(sample("three_levels_by_hand", three_levels_by_hand()));
     all.extend(with_spoiled("two_level", samples::two_level()));
     all.extend(with_spoiled("three_level", samples::three_level()));
@@ -45,6 +46,18 @@ fn bench_samples() -> Vec<Sample> {
         sample("nodes_2048_no_map_node", empty_tree(2_048)),
         sample("nodes_2049_no_map_node", empty_tree(2_049)),
         sample("map_node_linked_to_itself", map_node_linked_to_itself()),
+    ]
+}
+
+/// The tree of two leaves with pointers that are not the first keys of their children.
+fn pointer_samples() -> [Sample; 3] {
+    let below = two_leaves_with_pointer(1, Key::new(16, 0x00, 6));
+    let first_below = two_leaves_with_pointer(0, Key::new(16, 0x00, 4));
+    let at_last = two_leaves_with_pointer(1, Key::new(17, 0x00, 0));
+    [
+        sample("two_leaves_pointer_below_first_key", below),
+        sample("two_leaves_first_pointer_below_first_key", first_below),
+        sample("two_leaves_pointer_at_last_key", at_last),
     ]
 }
 

@@ -11,6 +11,7 @@ mod lookup;
 mod map;
 mod node;
 mod node_set;
+mod position;
 mod record;
 mod salvage;
 mod tree;

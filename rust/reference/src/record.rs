@@ -1,7 +1,8 @@
 //! How leaf and index nodes lay out their keyed records.
 
 use crate::key::{is_lawful_fork, Key, KEY_LENGTH, KEY_SIZE};
-use crate::node::{kind, level as level_byte, record_count, reserved, Node, RECORDS_AT};
+use crate::node::{kind, level, record_count, reserved, Node, RECORDS_AT};
+use crate::position::Position;
 use crate::verdict::{require, Verdict, KEY_ORDER, NODE_FORM};
 use std::ops::Range;
 
@@ -23,16 +24,12 @@ impl<const KIND: u8, const SIZE: usize, const MOST: usize> Keyed<KIND, SIZE, MOS
         &records[..record_count(node).min(MOST)]
     }
 
-    /// Tests 5 and 6 of a node that belongs on the given level and within the given bounds.
-    pub fn test(
-        node: &Node,
-        number: u32,
-        level: usize,
-        bounds: &Range<u64>,
-    ) -> Result<(), Verdict> {
-        let right_level = usize::from(level_byte(node)) == level;
+    /// Tests 5 and 6 of a node that belongs in the given position.
+    pub fn test(node: &Node, number: u32, position: &Position) -> Result<(), Verdict> {
+        let right_level = usize::from(level(node)) == position.level;
         require(right_level && Self::is_well_formed(node), NODE_FORM, number)?;
-        require(Self::keys_ascend_within(node, bounds), KEY_ORDER, number)
+        require(Self::keys_ascend_within(node, &position.bounds), KEY_ORDER, number)?;
+        require(Self::matches_pointer(node, position.pointer_key), KEY_ORDER, number)
     }
 
     /// Test 5 without the level, which a salvaged node need not keep.
@@ -53,6 +50,12 @@ impl<const KIND: u8, const SIZE: usize, const MOST: usize> Keyed<KIND, SIZE, MOS
             lowest = key + 1;
             fits
         })
+    }
+
+    /// Test 6: the first key equals the key of the pointer, where a pointer leads to the node.
+    fn matches_pointer(node: &Node, pointer_key: Option<u64>) -> bool {
+        let first_key = Self::records(node).first().map(packed_key);
+        pointer_key.is_none() || pointer_key == first_key
     }
 
     /// One offset more than records, as words from the end of the node backwards.

@@ -3,9 +3,9 @@
 use crate::header::Header;
 use crate::node::{back_link, forward_link, record_count, Node};
 use crate::node_set::NodeSet;
+use crate::position::Position;
 use crate::record::{child, packed_key, Index, Leaf};
 use crate::verdict::{require, Verdict, CHILD, LINKS};
-use std::ops::Range;
 
 /// No packed key reaches this, so it stands for "no bound above".
 const UNBOUNDED: u64 = u64::MAX;
@@ -30,20 +30,14 @@ struct Walk<'a> {
     leaf_records: u32,
 }
 
-/// Where a node hangs in the tree.
-struct Position {
-    parent: u32,
-    level: usize,
-    bounds: Range<u64>,
-}
-
 /// Walks a tree whose header has passed test 2 and adds its nodes to those met.
 pub fn walk(nodes: &[Node], header: &Header, met: &mut NodeSet) -> Result<LeafTotals, Verdict> {
     let mut walk =
         Walk { nodes, depth: header.depth, met, last_met: [0; 9], first_leaf: 0, leaf_records: 0 };
     if header.depth > 0 {
-        let root = Position { parent: 0, level: header.depth, bounds: 0..UNBOUNDED };
-        walk.visit(header.root, root)?;
+        let level = header.depth;
+        let root = Position { parent: 0, level, pointer_key: None, bounds: 0..UNBOUNDED };
+        walk.visit(header.root, &root)?;
         walk.test_level_ends()?;
     }
     Ok(LeafTotals {
@@ -54,37 +48,37 @@ pub fn walk(nodes: &[Node], header: &Header, met: &mut NodeSet) -> Result<LeafTo
 }
 
 impl Walk<'_> {
-    fn visit(&mut self, number: u32, position: Position) -> Result<(), Verdict> {
-        let Position { parent, level, bounds } = position;
+    fn visit(&mut self, number: u32, position: &Position) -> Result<(), Verdict> {
         // Node 0 and the map chain have been met before the tree, so they fall out here too.
         let new = (number as usize) < self.nodes.len() && self.met.insert(number);
-        require(new, CHILD, parent)?;
+        require(new, CHILD, position.parent)?;
 
         let node = &self.nodes[number as usize];
-        let is_leaf = level == LEAF_LEVEL;
+        let is_leaf = position.level == LEAF_LEVEL;
         if is_leaf {
-            Leaf::test(node, number, level, &bounds)?;
+            Leaf::test(node, number, position)?;
         } else {
-            Index::test(node, number, level, &bounds)?;
+            Index::test(node, number, position)?;
         }
-        self.test_links(number, level)?;
+        self.test_links(number, position.level)?;
 
         if is_leaf {
             self.count_leaf(number);
             Ok(())
         } else {
-            self.visit_children(number, level, bounds.end)
+            self.visit_children(number, position)
         }
     }
 
     /// Each child lies between its pointer key and the next, or the bound from above.
-    fn visit_children(&mut self, parent: u32, level: usize, end: u64) -> Result<(), Verdict> {
+    fn visit_children(&mut self, parent: u32, position: &Position) -> Result<(), Verdict> {
         let records = Index::records(&self.nodes[parent as usize]);
+        let level = position.level - 1;
         for (index, record) in records.iter().enumerate() {
             let low = packed_key(record);
-            let high = records.get(index + 1).map_or(end, packed_key);
-            let position = Position { parent, level: level - 1, bounds: low..high };
-            self.visit(child(record), position)?;
+            let high = records.get(index + 1).map_or(position.bounds.end, packed_key);
+            let position = Position { parent, level, pointer_key: Some(low), bounds: low..high };
+            self.visit(child(record), &position)?;
         }
         Ok(())
     }

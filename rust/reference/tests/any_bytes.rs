@@ -62,8 +62,8 @@ fn sound_trees_with_small_changes() {
     }
 }
 
-/// The bytes of the tree by hand that no rule judges, and those of key values, where a change may
-/// or may not break the order.
+/// The bytes of the tree by hand that no rule judges, and those of key values in the second records
+/// of leaves, where a change may or may not break the order; pointers and first keys must match.
 fn is_judged(at: usize) -> Option<bool> {
     let (node, within) = (at / 512, at % 512);
     match node {
@@ -76,10 +76,12 @@ fn is_judged(at: usize) -> Option<bool> {
             if !(14..14 + 2 * size).contains(&within) {
                 return Some(!(14..506).contains(&within));
             }
-            match (within - 14) % size {
-                0 | 1 => Some(true),
-                2..8 => None,
-                _ => Some(node < 4),
+            let is_leaf = node >= 4;
+            match ((within - 14) / size, (within - 14) % size) {
+                (_, 0 | 1) => Some(true),
+                (1, 2..8) if is_leaf => None,
+                (_, 2..8) => Some(true),
+                _ => Some(!is_leaf),
             }
         }
     }

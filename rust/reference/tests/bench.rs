@@ -155,6 +155,48 @@ fn two_leaves_with_other_levels() {
 }
 
 #[test]
+fn two_leaves_with_other_pointers() {
+    let with_pointer = |record, file, fork, start| {
+        two_leaves_with_pointer(record, images::Key::new(file, fork, start))
+    };
+    assert_eq!(with_pointer(0, 16, 0x00, 5), two_leaves());
+    assert_eq!(with_pointer(1, 16, 0xFF, 0), two_leaves());
+    // In order and within all bounds, but below the first key of leaf 3.
+    let below = with_pointer(1, 16, 0x00, 6);
+    assert_eq!(check(&below), verdict(6, 3));
+    assert_eq!(lookup(&below, 16, 0xFF, 0), refused(6, 3));
+    let first_below = with_pointer(0, 16, 0x00, 4);
+    assert_eq!(check(&first_below), verdict(6, 2));
+    assert_eq!(lookup(&first_below, 16, 0x00, 5), refused(6, 2));
+    let at_last_key = with_pointer(1, 17, 0x00, 0);
+    assert_eq!(check(&at_last_key), verdict(6, 3));
+    assert_eq!(lookup(&at_last_key, 17, 0x00, 0), refused(6, 3));
+    // Equal to the pointer before it, so the root itself is out of order.
+    assert_eq!(check(&with_pointer(1, 16, 0x00, 5)), verdict(6, 1));
+}
+
+#[test]
+fn the_first_key_of_a_root_is_free() {
+    let keys = [(0, 0x00, 0), (0, 0x00, 1), (16, 0x00, 4), (u32::MAX, 0xFF, u16::MAX)];
+    for (file, fork, start) in keys {
+        let mut image = l1();
+        image[526..534].copy_from_slice(&images::Key::new(file, fork, start).bytes());
+        assert_eq!(check(&image), verdict(0, 0));
+        let found = lookup(&image, file, fork, start).answer;
+        assert_eq!(found, Answer::Found { node: 1, record: 0 });
+    }
+    // As the first key of a root over leaves, and so of leaf 2 as well.
+    for (file, fork, start) in [(0, 0x00, 0), (0, 0x00, 1), (16, 0x00, 4)] {
+        let key = images::Key::new(file, fork, start);
+        let mut image = two_leaves_with_pointer(0, key);
+        image[1038..1046].copy_from_slice(&key.bytes());
+        assert_eq!(check(&image), verdict(0, 0));
+        let found = lookup(&image, file, fork, start).answer;
+        assert_eq!(found, Answer::Found { node: 2, record: 0 });
+    }
+}
+
+#[test]
 fn key_order() {
     let key = |file, fork, start| Key { file, fork, start };
     let low = key(16, 0x00, 9);

@@ -121,11 +121,11 @@ fn nodes_in_the_wrong_place() {
     gives(&[root(4)], 5, 4);
     // Free node 8 is all zeros.
     gives(&[child(2, 1, 8)], 5, 8);
-    // Leaf 5 under pointer 10 of node 2 must stay below 25.
+    // Leaf 5 under pointer 10 of node 2 must start with 10 and stay below 30.
     gives(&[child(2, 0, 5)], 6, 5);
-    // Leaf 6 under pointer 25 of node 2 must stay below 45.
+    // Leaf 6 under pointer 30 of node 2 must start with 30 and stay below 50.
     gives(&[child(2, 1, 6)], 6, 6);
-    // Node 3 under pointer 10 of the root must stay below 45.
+    // Node 3 under pointer 10 of the root must start with 10 and stay below 50.
     gives(&[child(1, 0, 3)], 6, 3);
 }
 
@@ -154,30 +154,105 @@ fn levels() {
 #[test]
 fn bounds_above() {
     // Set by the parent.
-    sound(&[leaf_key(4, 1, file_key(24))]);
-    gives(&[leaf_key(4, 1, file_key(25))], 6, 4);
+    sound(&[leaf_key(4, 1, file_key(29))]);
+    gives(&[leaf_key(4, 1, file_key(30))], 6, 4);
     // Set by the root; leaf 5 is the last child of node 2.
-    sound(&[leaf_key(5, 1, file_key(44))]);
-    gives(&[leaf_key(5, 1, file_key(45))], 6, 5);
-    gives(&[leaf_key(5, 1, file_key(47))], 6, 5);
+    sound(&[leaf_key(5, 1, file_key(49))]);
+    gives(&[leaf_key(5, 1, file_key(50))], 6, 5);
+    gives(&[leaf_key(5, 1, file_key(55))], 6, 5);
     // Nothing bounds the last leaf from above.
     sound(&[leaf_key(7, 1, Key::new(u32::MAX, 0xFF, u16::MAX))]);
-    // Pointers are bound as well.
-    sound(&[index_key(2, 1, file_key(30))]);
-    gives(&[index_key(2, 1, file_key(45))], 6, 2);
+    // Pointers are bound as well; leaf 5 starts with its pointer.
+    let moved = |first| {
+        [
+            index_key(2, 1, file_key(first)),
+            leaf_key(5, 0, file_key(first)),
+            leaf_key(5, 1, Key::new(first, 0xFF, 0)),
+        ]
+    };
+    sound(&moved(49));
+    gives(&moved(50), 6, 2);
 }
 
 #[test]
 fn bounds_below() {
-    sound(&[leaf_key(5, 0, file_key(25))]);
-    gives(&[leaf_key(5, 0, file_key(24))], 6, 5);
+    // A first key stands at its bound, so the next file down is out.
+    gives(&[leaf_key(5, 0, file_key(29))], 6, 5);
     gives(&[leaf_key(4, 0, file_key(9))], 6, 4);
-    sound(&[index_key(3, 0, file_key(45))]);
-    gives(&[index_key(3, 0, file_key(44))], 6, 3);
-    // A pointer may lie below its child, as far as its own bound goes.
-    sound(&[index_key(1, 0, file_key(0))]);
-    gives(&[index_key(1, 0, file_key(11))], 6, 2);
-    gives(&[index_key(3, 1, file_key(71))], 6, 7);
+    gives(&[index_key(3, 0, file_key(49))], 6, 3);
+    // A second key is bound through the first.
+    gives(&[leaf_key(5, 1, file_key(29))], 6, 5);
+    // A pointer that is lowered to a key left of it bounds that key first.
+    gives(&[index_key(1, 1, file_key(40))], 6, 5);
+    gives(&[index_key(1, 1, file_key(30))], 6, 2);
+    gives(&[index_key(2, 1, file_key(20))], 6, 4);
+    gives(&[index_key(3, 1, file_key(60))], 6, 6);
+}
+
+#[test]
+fn pointers_of_the_root_to_index_nodes() {
+    // The lowest file with room, the next below, the next above and one above the child's last.
+    for file in [0, 9, 11, 31] {
+        gives(&[index_key(1, 0, file_key(file))], 6, 2);
+    }
+    for file in [41, 49, 51, 81] {
+        gives(&[index_key(1, 1, file_key(file))], 6, 3);
+    }
+    // The nearest keys, and the other fork.
+    gives(&[index_key(1, 1, Key::new(49, 0xFF, u16::MAX))], 6, 3);
+    gives(&[index_key(1, 1, Key::new(50, 0x00, 1))], 6, 3);
+    gives(&[index_key(1, 1, Key::new(50, 0xFF, 0))], 6, 3);
+}
+
+#[test]
+fn pointers_to_leaves() {
+    // The lowest file with room, the next below, the next above, the child's last and one above.
+    for file in [21, 29, 31, 40, 41] {
+        gives(&[index_key(2, 1, file_key(file))], 6, 5);
+    }
+    for file in [61, 69, 71, 80, 81] {
+        gives(&[index_key(3, 1, file_key(file))], 6, 7);
+    }
+    // The nearest keys, and the other fork.
+    gives(&[index_key(2, 1, Key::new(29, 0xFF, u16::MAX))], 6, 5);
+    gives(&[index_key(2, 1, Key::new(30, 0x00, 1))], 6, 5);
+    gives(&[index_key(2, 1, Key::new(30, 0xFF, 0))], 6, 5);
+}
+
+#[test]
+fn first_pointers_of_index_nodes() {
+    // Alone, such a pointer is a first key unlike the pointer above it.
+    for file in [9, 11] {
+        gives(&[index_key(2, 0, file_key(file))], 6, 2);
+        gives(&[index_key(1, 0, file_key(file)), index_key(2, 0, file_key(file))], 6, 4);
+    }
+    for file in [49, 51] {
+        gives(&[index_key(3, 0, file_key(file))], 6, 3);
+        gives(&[index_key(1, 1, file_key(file)), index_key(3, 0, file_key(file))], 6, 6);
+    }
+}
+
+#[test]
+fn first_keys_of_children() {
+    for (number, files) in [(4, [9, 11]), (5, [29, 31]), (6, [49, 51]), (7, [69, 71])] {
+        for file in files {
+            gives(&[leaf_key(number, 0, file_key(file))], 6, number as u32);
+        }
+    }
+    // A pointer moved along with all that starts with its key is right again.
+    sound(&[index_key(3, 1, file_key(61)), leaf_key(7, 0, file_key(61))]);
+    sound(&[index_key(3, 1, file_key(79)), leaf_key(7, 0, file_key(79))]);
+    for file in [41, 59] {
+        let key = file_key(file);
+        sound(&[index_key(1, 1, key), index_key(3, 0, key), leaf_key(6, 0, key)]);
+    }
+}
+
+#[test]
+fn the_root_has_no_pointer() {
+    for key in [file_key(0), file_key(9), file_key(19)] {
+        sound(&[index_key(1, 0, key), index_key(2, 0, key), leaf_key(4, 0, key)]);
+    }
 }
 
 #[test]
@@ -185,10 +260,12 @@ fn order_within_a_node() {
     gives(&[leaf_key(6, 1, file_key(50))], 6, 6);
     gives(&[index_key(1, 1, file_key(10))], 6, 1);
     // A resource fork comes after the data fork of its file, whatever the start.
-    let data = Key::new(50, 0x00, 9);
-    let resource = Key::new(50, 0xFF, 0);
-    sound(&[leaf_key(6, 0, data), leaf_key(6, 1, resource)]);
-    gives(&[leaf_key(6, 0, resource), leaf_key(6, 1, data)], 6, 6);
+    let data = Key::new(70, 0x00, 9);
+    let resource = Key::new(70, 0xFF, 0);
+    let leaf_7 =
+        |first, second| [index_key(3, 1, first), leaf_key(7, 0, first), leaf_key(7, 1, second)];
+    sound(&leaf_7(data, resource));
+    gives(&leaf_7(resource, data), 6, 7);
 }
 
 #[test]
@@ -197,6 +274,15 @@ fn form_before_order_before_links() {
     let key_length = Patch::byte(node(4) + 14 + 20, 6);
     gives(&[equal_keys.clone(), key_length], 5, 4);
     gives(&[equal_keys, back(4, 1)], 6, 4);
+    // A first key unlike its pointer comes after all of the form and before all of the links.
+    let raised = leaf_key(5, 0, file_key(31));
+    gives(&[raised.clone(), reserved(5)], 5, 5);
+    gives(&[raised.clone(), back(5, 0)], 6, 5);
+    gives(&[raised, forward(4, 0)], 6, 5);
+    // Each node comes before its children, and all below it before the next.
+    let lowered = index_key(1, 1, file_key(49));
+    gives(&[lowered.clone(), reserved(5)], 5, 5);
+    gives(&[lowered, reserved(6)], 6, 3);
 }
 
 #[test]
@@ -280,10 +366,13 @@ fn lookups_and_their_paths() {
     // No pointer of the root is low enough.
     looks_up(9, Answer::Absent { node: 1 }, &[1]);
     // An equal pointer key is not the record itself.
-    looks_up(25, Answer::Absent { node: 5 }, &[1, 2, 5]);
+    looks_up(30, Answer::Found { node: 5, record: 0 }, &[1, 2, 5]);
+    looks_up(70, Answer::Found { node: 7, record: 0 }, &[1, 3, 7]);
+    // Between two leaves, the left one is the last node read.
     looks_up(24, Answer::Absent { node: 4 }, &[1, 2, 4]);
-    // The root leads to node 3, where no pointer is low enough.
-    looks_up(45, Answer::Absent { node: 3 }, &[1, 3]);
-    looks_up(49, Answer::Absent { node: 3 }, &[1, 3]);
+    looks_up(25, Answer::Absent { node: 4 }, &[1, 2, 4]);
+    looks_up(29, Answer::Absent { node: 4 }, &[1, 2, 4]);
+    looks_up(45, Answer::Absent { node: 5 }, &[1, 2, 5]);
+    looks_up(49, Answer::Absent { node: 5 }, &[1, 2, 5]);
     looks_up(90, Answer::Absent { node: 7 }, &[1, 3, 7]);
 }

@@ -1,6 +1,6 @@
 //! Lookups of every key and of gaps, against a linear search of the leaf list.
 
-use images::{build, samples, Built, Key, Plan, Rng};
+use images::{build, samples, Built, Key, Plan, Record, Rng};
 use reference::{leaf_records, lookup, Answer, LeafRecord, Lookup};
 
 fn long(image: &[u8], at: usize) -> u32 {
@@ -65,14 +65,12 @@ fn assert_right(image: &[u8], list: &[LeafRecord], asked: Key) {
     }
 }
 
-/// Every key in the tree, pointer keys too, its lawful neighbours and the ends of the range.
+/// Every leaf key, pointer keys among them, its lawful neighbours and the ends of the range.
 fn keys_worth_asking(built: &Built) -> Vec<Key> {
-    let pointers = built.levels.iter().flat_map(|level| &level.pointers);
-    let keys = built.records.iter().map(|record| &record.key).chain(pointers);
     let mut asked = vec![Key::new(0, 0x00, 0), Key::new(u32::MAX, 0xFF, u16::MAX)];
-    for key in keys {
+    for &Record { key, .. } in &built.records {
         let rank = key.rank();
-        asked.extend([*key, Key::from_rank(rank + 1), Key::from_rank(rank.saturating_sub(1))]);
+        asked.extend([key, Key::from_rank(rank + 1), Key::from_rank(rank.saturating_sub(1))]);
     }
     asked.sort_unstable();
     asked.dedup();

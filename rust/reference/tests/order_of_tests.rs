@@ -6,7 +6,7 @@ use reference::{check, Verdict};
 
 /// Whether the second fault leaves the first one standing.
 fn independent(a: &Spoiling, b: &Spoiling) -> bool {
-    // A pointer raised by one fault can make room for a key that another put too high.
+    // One moved key can make room for another, and a moved pointer can match a moved first key.
     let both_move_keys = a.number == 6 && b.number == 6;
     // A wrong depth can be right for a wrong level.
     let depth_meets_level = (of_form(a, "depth") && of_form(b, "level"))

@@ -14,6 +14,35 @@ fn assert_sound(built: &Built, name: &str) {
     }
 }
 
+/// Reads every index record of the tree and compares it with the node that it points to.
+fn assert_pointers_match(built: &Built, name: &str) {
+    let at = |number: u32| number as usize * 512;
+    let index_levels = built.depth().saturating_sub(1);
+    for level in &built.levels[..index_levels] {
+        for (&number, group) in level.numbers.iter().zip(&level.groups) {
+            let records = built.image[at(number) + 14..].chunks_exact(12);
+            for record in records.take(group.len()) {
+                let (key, child) = record.split_at(8);
+                let child = child.iter().fold(0, |number, &byte| number << 8 | u32::from(byte));
+                let first_key = &built.image[at(child) + 14..at(child) + 22];
+                assert_eq!(key, first_key, "{name}: pointer from {number} to {child}");
+            }
+        }
+    }
+}
+
+#[test]
+fn every_pointer_has_the_first_key_of_its_child() {
+    for depth in 0..=8 {
+        for seed in 0..20 {
+            let built = build(&Plan::random(seed, depth, 40));
+            assert_pointers_match(&built, &format!("depth {depth} seed {seed}"));
+        }
+    }
+    assert_pointers_match(&samples::three_level(), "three_level");
+    assert_pointers_match(&samples::largest(), "largest");
+}
+
 #[test]
 fn random_trees_of_every_depth() {
     for depth in 0..=8 {

@@ -16,8 +16,8 @@ fn place_by_table(built: &Built, spoiling: &Spoiling) -> u32 {
         (5, "depth_and_levels_one_over") => built.levels[built.depth() - 1].numbers[0],
         // The nodes above the leaves have level 1: the first of them should be a leaf.
         (5, "depth_and_levels_one_short") => built.levels[built.depth() - 2].numbers[0],
-        // The changed parent is in order by itself, but the child's first key is now too low.
-        (6, what) if what.ends_with("above_first_key") => child_of_changed_key(built, spoiling),
+        // The changed pointers are in order, but the lowest of them is not its child's first key.
+        (6, what) if what.starts_with("pointer_") => child_left_behind(built, spoiling),
         (9, _) => changed_bit(built, spoiling),
         // All else is the fault of the changed node: 3 of a map node, or of the header for its own
         // link, 4 of the parent, or of the header for the root, 5, 6 and 7 of a tree node.
@@ -32,11 +32,21 @@ fn only_write(spoiling: &Spoiling) -> (usize, &[u8]) {
     }
 }
 
-/// The child of the index record whose key was changed.
-fn child_of_changed_key(built: &Built, spoiling: &Spoiling) -> u32 {
-    let (at, _) = only_write(spoiling);
-    let child = &built.image[at + 8..at + 12];
-    child.iter().fold(0, |number, &byte| number << 8 | u32::from(byte))
+/// The one child of the index records with changed keys that was not changed along with them.
+fn child_left_behind(built: &Built, spoiling: &Spoiling) -> u32 {
+    let mut changed = Vec::new();
+    let mut children = Vec::new();
+    for patch in &spoiling.patches {
+        let Patch::Write { at, .. } = patch else {
+            panic!("{} changes the length", spoiling.name());
+        };
+        let child = &built.image[at + 8..at + 12];
+        changed.push((at / 512) as u32);
+        children.push(child.iter().fold(0, |number, &byte| number << 8 | u32::from(byte)));
+    }
+    children.retain(|child| !changed.contains(child));
+    assert_eq!(children.len(), 1, "{}", spoiling.name());
+    children[0]
 }
 
 /// The bit's number along the chain: 2,048 from byte F8 of the header, then 3,952 from byte 0E of
@@ -82,6 +92,27 @@ fn every_number_of_the_table_occurs() {
     let built = samples::three_level();
     for number in 1..=10 {
         assert!(!by_number(&built, number).is_empty(), "number {number}");
+    }
+}
+
+#[test]
+fn pointers_and_first_keys_differ_both_ways_on_every_level() {
+    let built = samples::three_level();
+    let known = by_number(&built, 6);
+    let ways = [
+        "first_key_below_pointer",
+        "first_key_above_pointer",
+        "pointer__below_first_key",
+        "pointer__far_below_first_key",
+        "pointer__above_first_key",
+    ];
+    let is = |spoiling: &Spoiling, way| spoiling.what.replace(char::is_numeric, "") == way;
+    for level in &built.levels[1..] {
+        for way in ways {
+            let mut of_way = known.iter().filter(|spoiling| is(spoiling, way));
+            let occurs = of_way.any(|spoiling| level.numbers.contains(&spoiling.place));
+            assert!(occurs, "{way} on the level of {:?}", level.numbers);
+        }
     }
 }
 

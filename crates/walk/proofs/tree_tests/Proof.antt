@@ -29,7 +29,7 @@ began c = begun (view (c .args .image .now)) (start c) (long c) (c .pre .marks) 
 
 -- what the visit of the root gives
 walked : (c : tie.After-visit) → let s = c .before .before .before .before .before .before in let v = view (s .args .image .now) in
-    c .visit .result ≡ steps v (start s) (entries v (v .depth - 1) 0 0 0 none (v .root))
+    c .visit .result ≡ steps v (start s) (entries v (v .depth - 1) 0 0 none none (v .root))
 unfolding viewOf
 walked c = c .visit .ensures .is ∙ rw (c .before .before .before .be16 .ensures .0, c .before .be32 .ensures, bound-none)
 

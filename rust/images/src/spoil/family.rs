@@ -83,8 +83,15 @@ impl Member {
         }
     }
 
-    /// The key that every key here must reach: that of the pointer record to this node.
-    pub fn lower_bound(self, built: &Built) -> Option<Key> {
+    /// The last leaf key to the left of all that is in or below this node.
+    pub fn key_before(self, built: &Built) -> Option<Key> {
+        let first_key = self.key(built, 0);
+        let before = built.records.partition_point(|record| record.key < first_key);
+        Some(built.records[..before].last()?.key)
+    }
+
+    /// The key of the pointer record to this node, which is also its first key.
+    pub fn pointer_key(self, built: &Built) -> Option<Key> {
         let (parent, record) = self.parent(built)?;
         Some(parent.key(built, record))
     }

@@ -1,4 +1,4 @@
-//! Number 6: keys out of order or out of the bounds set above them.
+//! Number 6: keys out of order, out of the bounds set above them or unlike their pointers.
 
 use super::family::{visit_order, Member};
 use super::form::record_size;
@@ -6,6 +6,7 @@ use super::{Moment, Patch, Spoiling, Stage, Step};
 use crate::build::Built;
 use crate::key::Key;
 use crate::node::RECORDS_AT;
+use std::iter::successors;
 
 pub fn spoilings(built: &Built) -> Vec<Spoiling> {
     let mut found = Vec::new();
@@ -13,8 +14,11 @@ pub fn spoilings(built: &Built) -> Vec<Spoiling> {
         let moment = Moment::at(Stage::Tree, visit as u32, Step::Order);
         let faults = within_node(built, member)
             .into_iter()
-            .chain(below_pointer(built, member))
             .chain(at_next_pointer(built, member))
+            .chain(first_key_below(built, member))
+            .chain(first_key_above(built, member))
+            .chain(pointer_below(built, member))
+            .chain(pointer_far_below(built, member))
             .chain(pointer_above(built, member));
         found.extend(faults.map(|(what, edited, patches)| Spoiling {
             what,
@@ -47,14 +51,6 @@ fn within_node(built: &Built, member: Member) -> Vec<Fault> {
     ]
 }
 
-/// The bound below is inclusive, so the key just under it is the nearest wrong one.
-fn below_pointer(built: &Built, member: Member) -> Option<Fault> {
-    let rank = member.lower_bound(built)?.rank().checked_sub(1)?;
-    let patch = set_key(built, member, 0, Key::from_rank(rank));
-    let what = "first_key_below_pointer".to_string();
-    Some((what, member, vec![patch]))
-}
-
 /// The bound above is exclusive, so a key equal to it is wrong, however far up it was set.
 fn at_next_pointer(built: &Built, member: Member) -> Option<Fault> {
     let bound = member.upper_bound(built)?;
@@ -64,16 +60,76 @@ fn at_next_pointer(built: &Built, member: Member) -> Option<Fault> {
     Some((what, member, vec![patch]))
 }
 
-/// The pointer is raised just over the child's first key; a second key leaves room for that.
-fn pointer_above(built: &Built, member: Member) -> Option<Fault> {
-    let (parent, record) = member.parent(built)?;
-    if member.record_count(built) < 2 {
+/// The nearest first key under that of the pointer, which is a bound as well.
+fn first_key_below(built: &Built, member: Member) -> Option<Fault> {
+    let rank = member.pointer_key(built)?.rank().checked_sub(1)?;
+    let patch = set_key(built, member, 0, Key::from_rank(rank));
+    let what = "first_key_below_pointer".to_string();
+    Some((what, member, vec![patch]))
+}
+
+/// The nearest first key over that of the pointer, where it keeps the order and the bounds.
+fn first_key_above(built: &Built, member: Member) -> Option<Fault> {
+    let rank = member.pointer_key(built)?.rank() + 1;
+    let next = match member.record_count(built) {
+        1 => member.upper_bound(built),
+        _ => Some(member.key(built, 1)),
+    };
+    if !is_below(rank, next) {
         return None;
     }
-    let raised = Key::from_rank(member.key(built, 0).rank() + 1);
-    let patch = set_key(built, parent, record, raised);
-    let what = format!("pointer_{record}_above_first_key");
-    Some((what, parent, vec![patch]))
+    let patch = set_key(built, member, 0, Key::from_rank(rank));
+    let what = "first_key_above_pointer".to_string();
+    Some((what, member, vec![patch]))
+}
+
+/// The nearest pointer over the child's first key, where it keeps the order of its own node.
+fn pointer_above(built: &Built, member: Member) -> Option<Fault> {
+    let rank = member.key(built, 0).rank() + 1;
+    if !is_below(rank, member.upper_bound(built)) {
+        return None;
+    }
+    moved_pointer(built, member, "above", rank)
+}
+
+/// The nearest pointer under the child's first key, where all keys left of the child stay below it.
+fn pointer_below(built: &Built, member: Member) -> Option<Fault> {
+    let rank = member.key(built, 0).rank().checked_sub(1)?;
+    if rank < lowest_pointer(built, member) {
+        return None;
+    }
+    moved_pointer(built, member, "below", rank)
+}
+
+/// The lowest pointer that keeps the order and all bounds, where it is not the nearest too.
+fn pointer_far_below(built: &Built, member: Member) -> Option<Fault> {
+    let rank = lowest_pointer(built, member);
+    if rank + 1 >= member.key(built, 0).rank() {
+        return None;
+    }
+    moved_pointer(built, member, "far_below", rank)
+}
+
+/// The pointer bounds all that is left of the child, so it has to stay above that.
+fn lowest_pointer(built: &Built, member: Member) -> u64 {
+    member.key_before(built).map_or(0, |key| key.rank() + 1)
+}
+
+/// Another key in the pointer to the node, and in each one above that has to equal it.
+fn moved_pointer(built: &Built, member: Member, how: &str, rank: u64) -> Option<Fault> {
+    let (parent, record) = member.parent(built)?;
+    let moved = successors(Some((parent, record)), |&(node, record)| match record {
+        0 => node.parent(built),
+        _ => None,
+    });
+    let key = Key::from_rank(rank);
+    let patches = moved.map(|(node, record)| set_key(built, node, record, key)).collect();
+    let what = format!("pointer_{record}_{how}_first_key");
+    Some((what, parent, patches))
+}
+
+fn is_below(rank: u64, bound: Option<Key>) -> bool {
+    bound.is_none_or(|bound| rank < bound.rank())
 }
 
 fn set_key(built: &Built, member: Member, record: usize, key: Key) -> Patch {

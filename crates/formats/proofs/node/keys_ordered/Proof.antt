@@ -1,113 +1,37 @@
 -- `node::keys_ordered` meets its contract. Assumes nothing.
-use native.Mathlib.Omega.{arith}
-use Prim.Native.Nat.{_+_, _-_, _*_, _≤_}
-use mathlib.Core.Path.{_≡_, sym}
-use Rattle.formats.specs.Bound.{bound}
-use Rattle.formats.specs.Format.{keyOf, recordAt, view}
-use Rattle.btree.proofs.Decisions.{says-yes, says-no}
+use mathlib.Core.Path.{sym}
+use borrow.Author.Tests.{not-true, not-false}
 use Rattle.btree.specs.Walk.{decOrdered}
-use Rattle.btree.specs.Header.{viewOf}
-use Rattle.formats.proofs.Sizes.{record-next}
-use Rattle.formats.proofs.Bounds.{under-bound, bound-under}
-use Rattle.formats.proofs.Ascent.{upto-none, upto-more, upto-low, upto-all, Upto}
+use Rattle.btree.proofs.Decisions.{says-no}
+use Rattle.btree.proofs.Keys.{ordered-iff}
+use Rattle.formats.specs.Bound.{bound}
+use Rattle.formats.specs.Format.{view}
+use Rattle.formats.proofs.Telling.{told-no, tells-says}
 use borrow.Author.Needs.{needs}
 use Rattle.formats.proofs.node.keys_ordered.Statement.{statement}
 use Rattle.formats.proofs.node.keys_ordered.Tie as tie
 
-abbrev Inv-loop : tie.InvT-loop
-Inv-loop image node low high c step at₀ next₀ i₀ at next i = (i ≤ c) × Upto (view image) node low (bound high) i next × (at ≡ recordAt image node i) × (at ≤ 10000000000000 + 20 * i)
+first-meets-requires : tie.Need-first-meets-requires
+first-meets-requires c κs = search needs
 
-abbrev μ-loop : tie.MeasureT-loop
-μ-loop image node low high c step at₀ next₀ i₀ at next i = c - i
-
--- the key read is that of record i
-key-is : (c : tie.After-key-at Inv-loop μ-loop) → let l = c .before .before in let a = l .before .before .before .before .before .args in
-    c .key-at .result ≡ view (a .image .now) .key (a .node) (l .loop .i)
-unfolding viewOf keyOf
-key-is c = rw (← c .before .before .loop .inv .2) (c .key-at .ensures .0)
-
-count-of-requires : tie.Need-count-of-requires Inv-loop μ-loop
-count-of-requires c κs = search needs
-
-record-step-requires : tie.Need-record-step-requires Inv-loop μ-loop
-record-step-requires c κs = search needs
-
-record-at-requires : tie.Need-record-at-requires Inv-loop μ-loop
-record-at-requires c κs = search needs
-
-loop-holds : tie.Need-loop-holds Inv-loop μ-loop
-loop-holds c = (search needs, upto-none _ _ _ _, c .record-at .ensures .0, omega (arith, c .record-at .ensures .1))
-
-key-at-requires : tie.Need-key-at-requires Inv-loop μ-loop
-key-at-requires c κs = omega (arith, c .before .before .before .before .count-of .ensures .1)
-
-returns : tie.Need-returns Inv-loop μ-loop
-unfolding viewOf
-returns c = let k = c .before in
-    let l = k .before .before in
-    let a = l .before .before .before .before .before .args in
-    let e = key-is k in
-    sym (says-no (decOrdered (view (a .image .now)) (a .low) (bound (a .high)) (a .node)) (upto-low _ _ _ _ _ _ (l .loop .inv .1) (omega arith) (omega arith)))
-
-returns-2 : tie.Need-returns-2 Inv-loop μ-loop
-unfolding viewOf
-returns-2 c = let k = c .before .before in
-    let l = k .before .before in
-    let a = l .before .before .before .before .before .args in
+returns : tie.Need-returns
+returns c = let a = c .before .before .before .args in
+    let t = c .before .first-meets in
     let v = view (a .image .now) in
-    let e = key-is k in
-    let b = k .key-at .ensures .1 in
-    sym (says-no (decOrdered v (a .low) (bound (a .high)) (a .node)) (λ o. let w = bound-under (v .key (a .node) (l .loop .i)) (a .high) (omega arith) (o .within (l .loop .i) (omega arith) .1) in omega arith))
+    let iff = ordered-iff v (bound (a .low)) (bound (a .high)) (a .node) in
+    sym (says-no (decOrdered v (bound (a .low)) (bound (a .high)) (a .node)) (λ o. told-no (t .result) (t .ensures) (not-true (t .result) (c .if1 .taken)) (iff .0 o .0)))
 
-add-next : tie.Need-add-next Inv-loop μ-loop
-add-next c = search needs
+keys-rise-requires : tie.Need-keys-rise-requires
+keys-rise-requires c κs = search needs
 
-add-at : tie.Need-add-at Inv-loop μ-loop
-add-at c = omega (arith, c .before .before .before .before .before .before .record-step .ensures .1, c .before .before .before .before .before .before .before .count-of .ensures .1)
-
-add-i : tie.Need-add-i Inv-loop μ-loop
-add-i c = search needs
-
-loop-less : tie.Need-loop-less Inv-loop μ-loop
-loop-less c = search needs
-
-loop-again : tie.Need-loop-again Inv-loop μ-loop
-unfolding viewOf
-loop-again c = let k = c .before .before in
-    let l = k .before .before in
-    let s = l .before .before in
-    let a = s .before .before .before .args in
-    let n = record-next (a .image .now) (a .node) (l .loop .i) in
-    let z = s .record-step .ensures in
-    let q = l .loop .inv .2 in (
-      search needs,
-      rw (key-is k) (upto-more _ _ _ _ _ _ (l .loop .inv .1) (let e = key-is k in omega arith) (under-bound _ _ (let e = key-is k in omega arith))),
-      omega arith,
-      omega arith,
-    )
-
-returns-3 : tie.Need-returns-3 Inv-loop μ-loop
-unfolding viewOf
-returns-3 c = let l = c .before in
-    let a = l .before .before .before .before .before .args in
-    sym (says-yes (decOrdered (view (a .image .now)) (a .low) (bound (a .high)) (a .node)) (upto-all _ _ _ _ _ _ (l .loop .inv .1) (omega arith)))
+returns-2 : tie.Need-returns-2
+returns-2 c = let a = c .before .before .before .before .args in
+    let t = c .before .before .first-meets in
+    let v = view (a .image .now) in
+    let iff = ordered-iff v (bound (a .low)) (bound (a .high)) (a .node) in
+    tells-says (c .keys-rise .result) (decOrdered v (bound (a .low)) (bound (a .high)) (a .node)) (c .keys-rise .ensures)
+    (λ r. iff .1 (t .ensures .holds (not-false (t .result) (c .before .if1 .left)), r))
+    (λ o. iff .0 o .1)
 
 pub keys-ordered-spec : {M : Type 1} → statement M
-keys-ordered-spec =
-    tie.close
-    (tie.spec
-    Inv-loop
-    μ-loop
-    count-of-requires
-    record-step-requires
-    record-at-requires
-    loop-holds
-    key-at-requires
-    returns
-    returns-2
-    add-next
-    add-at
-    add-i
-    loop-less
-    loop-again
-    returns-3)
+keys-ordered-spec = tie.close (tie.spec first-meets-requires returns keys-rise-requires returns-2)

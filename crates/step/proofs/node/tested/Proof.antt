@@ -21,7 +21,7 @@ fresh c = not-false _ (c .if1 .left)
 head : (c : tie.Else2) → let a = c .before .before .before .before .args in says (view (a .image .now) .decWellFormed (a .node) (a .level)) ≡ true
 head c = sym (c .before .node-right .ensures) ∙ not-false _ (c .if2 .left)
 
-keys : (c : tie.Else3) → let a = c .before .before .before .before .before .before .args in says (decOrdered (view (a .image .now)) (a .low) (bound (a .high)) (a .node)) ≡ true
+keys : (c : tie.Else3) → let a = c .before .before .before .before .before .before .args in says (decOrdered (view (a .image .now)) (bound (a .low)) (bound (a .high)) (a .node)) ≡ true
 keys c = sym (c .before .keys-ordered .ensures) ∙ not-false _ (c .if3 .left)
 
 back : (c : tie.Else4) → let a = c .before .before .before .before .before .before .before .before .args in says (ℕ-discrete (view (a .image .now) .back (a .node)) (a .p)) ≡ true

@@ -57,7 +57,7 @@ module _ (t : ℕ) where
   whole : (c : lts.At-loop (calls t) (pre t) visit.Post Inv μ) → let a = c .before .before .before .before .before .args in
       steps (view (a .image .now)) (c .before .before .before .stepped .result)
       (span 0 (c .before .count-of .result) (kid (view (a .image .now)) (a .below - 1) (a .level) (bound (a .high)) (a .node)))
-      ≡ steps (view (a .image .now)) (a .w) (entries (view (a .image .now)) (a .below) (a .level) (a .parent) (a .low) (bound (a .high)) (a .node))
+      ≡ steps (view (a .image .now)) (a .w) (entries (view (a .image .now)) (a .below) (a .level) (a .parent) (bound (a .low)) (bound (a .high)) (a .node))
   unfolding viewOf
   whole c =
       rw (c .before .count-of .ensures .0, c .before .before .before .stepped .ensures .is)

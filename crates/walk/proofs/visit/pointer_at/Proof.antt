@@ -22,7 +22,7 @@ add-if1 : tie.Need-add-if1
 add-if1 c = search needs
 
 returns : tie.Need-returns
-returns c = record { child = c .before .before .child-of .ensures; low = c .before .key-of .ensures .0; under = sym (cond-no (decLt (suc (c .before .before .before .before .args .i)) (view (c .before .before .before .before .args .image .now) .count (c .before .before .before .before .args .node))) _ _ (omega arith)) }
+returns c = record { child = c .before .before .child-of .ensures; low = bound-some _ (c .before .key-of .ensures .1) ∙ ap some (c .before .key-of .ensures .0); under = sym (cond-no (decLt (suc (c .before .before .before .before .args .i)) (view (c .before .before .before .before .args .image .now) .count (c .before .before .before .before .args .node))) _ _ (omega arith)) }
 
 add-key-of : tie.Need-add-key-of
 add-key-of c = search needs
@@ -36,7 +36,7 @@ returns-2 c =
     let v = view (a .image .now) in
     record {
       child = c .before .before .before .child-of .ensures;
-      low = c .before .before .key-of .ensures .0;
+      low = bound-some _ (c .before .before .key-of .ensures .1) ∙ ap some (c .before .before .key-of .ensures .0);
       under =
           bound-some _ (c .key-of2 .ensures .1) ∙ ap some (c .key-of2 .ensures .0 ∙ ap (v .key (a .node)) (add-one (a .i)))
           ∙ sym (cond-yes (decLt (suc (a .i)) (v .count (a .node))) _ _ (omega arith));

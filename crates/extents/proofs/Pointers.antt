@@ -1,0 +1,41 @@
+-- Pointer keys of a sound image, as W-205 words them, and what a search by them comes to where no leaf record has the key.
+-- Assumes nothing.
+use mathlib.Core.Path.{_≡_}
+use mathlib.Core.Logic.{_↔_}
+use mathlib.Core.Option.{some}
+use mathlib.Core.List.{List}
+use Prim.Native.Nat.{ℕ, suc, _<_}
+use lib.ListN.{length}
+use Rattle.btree.specs.Lists.{_∈_}
+use Rattle.btree.specs.Tree.{Rec, OnLevel}
+use Rattle.btree.specs.Header.{depthOf, viewOf}
+use Rattle.btree.specs.Search.{Highest, Floor}
+use Rattle.btree.proofs.Leaves.{on-child}
+use Rattle.btree.proofs.Paths.{lastOf}
+use Rattle.btree.proofs.Floor as floor
+use Rattle.formats.specs.declared.key.Key.{Key}
+use Rattle.formats.specs.Key.{packed}
+use Rattle.formats.specs.Format.{view}
+use Rattle.extents.specs.Reader.{Sound, leafList, searchPath}
+
+module _ (img : List ℕ) (s : Sound img) where
+  -- "a leaf holds 1 to 22 and an index node 1 to 35"
+  node-filled : (d n : ℕ) → OnLevel (view img) d n → 0 < view img .count n
+  unfolding viewOf
+  node-filled d n o = s .nodes d n o .records .some
+
+  -- "a pointer key equals the first key of its child": so of every record of every index node
+  pub pointer-first : (d n i : ℕ) → OnLevel (view img) d n → suc d < view img .depth → i < view img .count n → view img .key n i ≡ view img .key (view img .child n i) 0
+  pointer-first d n i o l u = s .tree .pointerKeys d n i o u l (node-filled (suc d) (view img .child n i) (on-child (view img) d n i o u l))
+
+  module _ (k : Key) where
+    -- of all leaf records the one with the highest key not above k is the one with the highest key not above k in the leaf where the search path of k ends
+    pub floor-iff : (x : Rec) → Floor (view img) (packed k) x
+        ↔ ((length (searchPath img k) ≡ depthOf img) × (lastOf (searchPath img k) ≡ some (x .node)) × Highest (view img) (x .node) (packed k) (x .at) × (view img .key (x .node) (x .at) ≡ x .key))
+    unfolding viewOf
+    floor-iff = floor.floor-iff (view img) (s .tree) (packed k) node-filled (s .totals)
+
+    -- and the path is cut short only where every leaf record's key is above k
+    pub cut-short : length (searchPath img k) < depthOf img → (x : Rec) → x ∈ leafList img → packed k < x .key
+    unfolding viewOf
+    cut-short = floor.cut-short (view img) (s .tree) (packed k) node-filled (s .totals)

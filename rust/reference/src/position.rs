@@ -1,0 +1,14 @@
+//! Where a node hangs in the tree.
+
+use std::ops::Range;
+
+/// The road to a node, as far as the tests of the node need it.
+pub struct Position {
+    /// The node that points here; 0 for the root.
+    pub parent: u32,
+    pub level: usize,
+    /// The key of the pointer record that leads here; none leads to the root.
+    pub pointer_key: Option<u64>,
+    /// What every pointer on the road allows the packed keys to be.
+    pub bounds: Range<u64>,
+}
