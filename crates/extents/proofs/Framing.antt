@@ -12,9 +12,9 @@ use Rattle.btree.specs.Tests.{decLengths, decHeaderNode, chainFrom}
 use Rattle.btree.proofs.Decisions.{said}
 use Rattle.btree.proofs.Chain.{chain-few, chain-rules}
 use Rattle.btree.proofs.MapBits.{some-nodes}
-use Rattle.hfs.specs.declared.map.Chain.{Chain}
+use Rattle.map.specs.declared.chain.Chain.{Chain}
 use Rattle.hfs.specs.Hfs.{hfs}
-use Rattle.hfs.specs.Frame.{ChainOf, Framed}
+use Rattle.map.specs.Frame.{ChainOf, Framed}
 use Rattle.hfs.proofs.Hfs.{fits}
 use Rattle.walk.specs.Outcome.{Begins}
 

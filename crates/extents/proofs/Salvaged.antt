@@ -15,7 +15,7 @@ use Rattle.formats.specs.declared.key.Key.{Key}
 use Rattle.formats.specs.Key.{Lawful, packed, keyAt}
 use Rattle.formats.specs.Format.{keyOf, recordAt, view}
 use Rattle.extents.specs.Reader.{Sound, leafList, salvaged}
-use Rattle.formats.specs.Whole.{WholeLeaf}
+use Rattle.nodes.specs.Whole.{WholeLeaf}
 use Rattle.search.specs.Seen.{First}
 use Rattle.extents.specs.Salvage.{Searched}
 use Rattle.formats.proofs.Order.{InRange, Bytes, key-range, packed-fork}

@@ -13,7 +13,7 @@ use Rattle.hfs.specs.Hfs.{hfs}
 use Rattle.formats.specs.declared.key.Key.{Key}
 use Rattle.formats.specs.Key.{Lawful, compared, keyAt}
 use Rattle.formats.specs.Format.{recordAt}
-use Rattle.formats.specs.Whole.{WholeLeaf}
+use Rattle.nodes.specs.Whole.{WholeLeaf}
 use Rattle.search.specs.Seen.{First}
 
 -- record i of the node n is a match

@@ -1,5 +1,2 @@
 pub mod Key
 pub mod Format
-pub mod Whole
-pub mod Tells
-pub mod Bound

@@ -1,4 +1,3 @@
-// The functions of a node, which alone know the format: an extents overflow file of an HFS volume.
+// The key and the records of a node, as an extents overflow file of an HFS volume has them.
 pub mod key;
-pub mod node;
 pub mod records;

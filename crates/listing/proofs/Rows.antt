@@ -14,7 +14,7 @@ use Rattle.btree.proofs.Leaves.{leafList-leaves}
 use Rattle.btree.specs.Header.{leafRecordsOf, viewOf}
 use Rattle.formats.specs.Format.{view}
 use Rattle.extents.specs.Reader.{Sound}
-use Rattle.hfs.proofs.Along.{along-on, along-end}
+use Rattle.btree.proofs.Along.{along-on, along-end}
 use Rattle.listing.specs.declared.Row.{Row}
 use Rattle.listing.specs.declared.Row.the-variants.{Record, NoRecord}
 use Rattle.listing.specs.Rows.{nth, rowOf, leafRow, EndsAt}

@@ -17,7 +17,7 @@ use Rattle.btree.specs.Search.{recordWith}
 use Rattle.btree.proofs.Decisions.{cond-yes, cond-no, said, unsaid}
 use Rattle.search.specs.declared.place.Place.the-variants.{At, Nowhere}
 use Rattle.formats.specs.Format.{view}
-use Rattle.formats.specs.Whole.{decWholeLeaf}
+use Rattle.nodes.specs.Whole.{decWholeLeaf}
 use Rattle.search.specs.Seen.{seenIn, seenFrom}
 use Rattle.search.specs.Place.{placeOf}
 use Rattle.btree.proofs.Left.{one-more, none-left}

@@ -15,7 +15,7 @@ use Rattle.btree.specs.Search.{recordWith}
 use Rattle.btree.proofs.Answers.{with-some, with-before, with-none}
 use Rattle.hfs.specs.Hfs.{hfs}
 use Rattle.formats.specs.Format.{keyOf, view}
-use Rattle.formats.specs.Whole.{WholeLeaf, decWholeLeaf}
+use Rattle.nodes.specs.Whole.{WholeLeaf, decWholeLeaf}
 use Rattle.search.specs.Seen.{seenIn, seenOr, seenFrom, First}
 
 -- record i of the node n has the packed key k, and the node counts

@@ -2,7 +2,7 @@
 -- Assumes nothing.
 use Prim.Native.Nat.{ℕ}
 use lib.Dec.{ltb}
-use Rattle.formats.specs.Tells.{pick}
+use Rattle.nodes.specs.Tells.{pick}
 use Rattle.search.specs.declared.highest.Best.{Best}
 use Rattle.search.specs.declared.place.Place.the-variants.{At}
 

@@ -10,7 +10,7 @@ use Rattle.btree.specs.Header.{countOf}
 use Rattle.btree.specs.Search.{recordWith}
 use Rattle.hfs.specs.Hfs.{hfs}
 use Rattle.formats.specs.Format.{view}
-use Rattle.formats.specs.Whole.{decWholeLeaf}
+use Rattle.nodes.specs.Whole.{decWholeLeaf}
 
 -- the record of the node n that has the key k, if the node counts
 unfoldable pub seenIn : List ℕ → ℕ → ℕ → Option ℕ

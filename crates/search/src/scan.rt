@@ -7,7 +7,7 @@ ghost use Rattle.search.specs.Seen.{seenIn, seenFrom};
 use super::place::Place;
 use super::place::record_with;
 use btree::Salvage;
-use formats::node::is_whole;
+use nodes::is_whole;
 
 fn seen_in(image: &[u8], node: u32, k: u64) -> Place
     ensures { λ r. ⌜ r ≡ placeOf (seenIn (now (image .entry)) k node) ⌝ }

@@ -11,8 +11,8 @@ use Rattle.btree.specs.declared.Verdict.{Verdict}
 use Rattle.btree.specs.Decide.{ifZero}
 use Rattle.btree.specs.Tree.{View}
 use Rattle.btree.specs.Walk.{Entry, firstOr, test}
-use Rattle.formats.specs.Tells.{pick}
-use Rattle.formats.specs.Bound.{bound}
+use Rattle.nodes.specs.Tells.{pick}
+use Rattle.nodes.specs.Bound.{bound}
 use Rattle.step.specs.declared.state.Walk.{Walk}
 
 -- a node as the code comes to it

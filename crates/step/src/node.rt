@@ -6,11 +6,11 @@ ghost use Rattle.btree.specs.Walk.{decLeads, test};
 ghost use Rattle.formats.specs.Format.{view};
 ghost use Rattle.step.specs.State.{freshIn, entry};
 use btree::Verdict;
-use formats::node::keys_ordered;
-use formats::node::node_right;
 use hfs::node::back_of;
 use hfs::node::forward_of;
 use image::bytes::bit_at;
+use nodes::form::node_right;
+use nodes::order::keys_ordered;
 
 // Test 4.
 pub fn is_fresh(visited: &[u8], total: u32, node: u32) -> bool

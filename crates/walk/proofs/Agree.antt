@@ -24,14 +24,14 @@ use Rattle.btree.proofs.TreeRules.{tree-deep}
 use Rattle.btree.proofs.Ordered.{if-zero, if-other}
 use Rattle.btree.proofs.MapBits.{bit-for, bit-not}
 use Rattle.step.specs.declared.state.Walk.{Walk}
-use Rattle.formats.specs.Tells.{pick}
+use Rattle.nodes.specs.Tells.{pick}
 use Rattle.step.specs.State.{freshIn, stopped, firstWith, kept, lastAt, step}
 use Rattle.walk.specs.Visit.{steps}
 use Rattle.step.proofs.Lands.{step-stops, step-keeps}
 use Rattle.walk.proofs.Steps.{steps-stuck}
 use Rattle.step.proofs.Fresh.{Free, free-says}
-use Rattle.hfs.specs.Frame.{Marks}
-use Rattle.hfs.proofs.Marks.{marks-more}
+use Rattle.map.specs.Frame.{Marks}
+use Rattle.map.proofs.Marks.{marks-more}
 
 -- what a walk that came to this state finds in all
 unfoldable pub finish : View → Walk → Verdict

@@ -12,7 +12,7 @@ use Rattle.btree.specs.Walk.{Entry, above, entries}
 use Rattle.btree.proofs.Left.{one-more, none-left}
 use Rattle.step.specs.declared.state.Walk.{Walk}
 use Rattle.walk.specs.declared.visit.Pointer.{Pointer}
-use Rattle.formats.specs.Bound.{bound}
+use Rattle.nodes.specs.Bound.{bound}
 use Rattle.step.specs.State.{step}
 use Rattle.step.proofs.Lands.{step-stuck}
 use Rattle.walk.specs.Visit.{steps, Points}

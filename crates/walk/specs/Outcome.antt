@@ -6,7 +6,7 @@ use Prim.Native.Nat.{ℕ, suc, _≤_}
 use lib.ListN.{length}
 use Rattle.btree.specs.Tree.{mapChain, reached}
 use Rattle.btree.specs.Walk.{fails, walk}
-use Rattle.hfs.specs.Frame.{Marks}
+use Rattle.map.specs.Frame.{Marks}
 use Rattle.formats.specs.Format.{view}
 use Rattle.step.specs.declared.state.Walk.{Walk}
 

@@ -6,7 +6,7 @@ use mathlib.Core.List.{List, [], _∷_}
 use Prim.Native.Nat.{ℕ}
 use Rattle.btree.specs.Tree.{View}
 use Rattle.btree.specs.Walk.{Entry, above}
-use Rattle.formats.specs.Bound.{bound}
+use Rattle.nodes.specs.Bound.{bound}
 use Rattle.step.specs.declared.state.Walk.{Walk}
 use Rattle.step.specs.State.{step}
 use Rattle.walk.specs.declared.visit.Pointer.{Pointer}

@@ -2,7 +2,7 @@
 ghost use mathlib.Core.Path.{_≡_};
 ghost use Prim.Native.Nat.{_<_};
 ghost use Rattle.btree.specs.Walk.{entries};
-ghost use Rattle.formats.specs.Bound.{bound};
+ghost use Rattle.nodes.specs.Bound.{bound};
 ghost use Rattle.formats.specs.Format.{view};
 ghost use Rattle.step.specs.Ready.{Ready, Gives};
 ghost use Rattle.walk.specs.Visit.{steps, Points};

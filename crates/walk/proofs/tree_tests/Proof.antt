@@ -11,7 +11,7 @@ use Rattle.btree.specs.Header.{viewOf}
 use Rattle.walk.specs.Visit.{steps}
 use Rattle.walk.proofs.Agree.{Agrees, tree-none, found-fault, found-none, found-agree}
 use Rattle.formats.specs.Format.{view}
-use Rattle.formats.proofs.Bounds.{bound-none}
+use Rattle.nodes.proofs.Bounds.{bound-none}
 use Rattle.walk.proofs.Finish.{begun, ended, faulted, no-levels}
 use borrow.Author.Needs.{needs}
 use Rattle.walk.proofs.tree_tests.Statement.{statement}

@@ -8,7 +8,7 @@ use Rattle.btree.proofs.Decisions.{says-yes, says-no}
 use Rattle.btree.specs.Walk.{decOrdered}
 use Rattle.btree.specs.Header.{viewOf}
 use Rattle.btree.specs.Decide.{says}
-use Rattle.formats.specs.Bound.{bound}
+use Rattle.nodes.specs.Bound.{bound}
 use Rattle.formats.specs.Format.{view}
 use borrow.Author.Needs.{needs}
 use Rattle.step.proofs.node.tested.Statement.{statement}

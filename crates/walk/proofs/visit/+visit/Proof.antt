@@ -9,7 +9,7 @@ use Rattle.btree.specs.Lists.{span}
 use Rattle.btree.specs.Header.{viewOf}
 use Rattle.btree.specs.Walk.{entries}
 use Rattle.formats.specs.Format.{view}
-use Rattle.formats.specs.Bound.{bound}
+use Rattle.nodes.specs.Bound.{bound}
 use Rattle.walk.specs.Visit.{steps}
 use Rattle.step.specs.Room.{Small}
 use Rattle.walk.proofs.Steps.{kid, steps-stuck, steps-leaf, steps-index, kids-end, kids-on}

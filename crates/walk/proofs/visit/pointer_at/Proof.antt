@@ -1,7 +1,7 @@
 -- `visit::pointer_at` meets its contract: the bound over what stands below a record is the next key, or the node's own bound. Assumes nothing.
 use native.Mathlib.Numerals.{add-one}
 use mathlib.Core.Option.{some}
-use Rattle.formats.proofs.Bounds.{bound-some}
+use Rattle.nodes.proofs.Bounds.{bound-some}
 use Rattle.btree.proofs.Decisions.{cond-yes, cond-no}
 use native.Mathlib.Decide.{decLt}
 use Rattle.formats.specs.Format.{view}

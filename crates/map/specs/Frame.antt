@@ -1,0 +1,36 @@
+-- What the code keeps of the header and the map chain, and when it may go on to the map bits.
+-- Assumes nothing.
+use mathlib.Core.Path.{_≡_}
+use mathlib.Core.Option.{Option, none, some}
+use mathlib.Core.List.{List, [], _∷_}
+use Prim.Native.Nat.{ℕ, suc, _/_}
+use lib.ListN.{length}
+use Rattle.image.specs.Bit.{bitOf}
+use Rattle.btree.specs.Header.{totalOf, mapNodes}
+use Rattle.btree.specs.Image.{Lengths, MapChain}
+use Rattle.btree.specs.Walk.{fails}
+use Rattle.btree.specs.Tests.{bitFor, chainFrom}
+use Rattle.map.specs.declared.chain.Chain.{Chain}
+use Rattle.map.specs.declared.bits.Wrong.{Wrong}
+use Rattle.map.specs.declared.bits.Wrong.the-variants.{At, Nowhere}
+use Rattle.hfs.specs.Hfs.{hfs}
+
+-- the bits set are those of these nodes
+abbrev pub Marks : List ℕ → List ℕ → Type 0
+Marks bits nodes = (n : ℕ) → bitOf bits n ≡ bitFor nodes n
+
+-- what the walk along the chain gives
+pub record ChainOf (img : List ℕ) (r : Chain) : Type 0 where
+  pub verdict : fails (r .number) (r .place) ≡ chainFrom hfs img [] 0 (mapNodes hfs img)
+  pub marks : r .number ≡ 0 → Marks (r .visited .bits) (0 ∷ mapNodes hfs img)
+  pub count : r .number ≡ 0 → r .nodes ≡ suc (length (mapNodes hfs img))
+
+-- an image whose length, total and map chain are right
+pub record Framed (img : List ℕ) : Type 0 where
+  pub lengths : Lengths hfs img
+  pub totalNodes : totalOf img ≡ length img / 512
+  pub chain : MapChain hfs img
+
+abbrev pub wrongAt : Wrong → Option ℕ
+wrongAt (At k) = some k
+wrongAt Nowhere = none

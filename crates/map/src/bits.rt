@@ -1,0 +1,96 @@
+// Test 9, the map bits; test 10, the free count.
+ghost use mathlib.Core.Path.{_≡_};
+ghost use mathlib.Core.List.{List};
+ghost use Prim.Native.Nat.{ℕ, _*_, _<_, _≤_};
+ghost use lib.ListN.{length};
+ghost use Rattle.image.specs.Bit.{bitOf};
+ghost use Rattle.btree.specs.Image.{mapBytes};
+ghost use Rattle.btree.specs.Tests.{lowestWrong, mapTests};
+ghost use Rattle.hfs.specs.Hfs.{hfs};
+ghost use Rattle.map.specs.Frame.{Marks, Framed, wrongAt};
+use btree::Verdict;
+use hfs::node::forward_of;
+use image::bytes::be32;
+use image::bytes::byte_at;
+use image::visited::Visited;
+
+// The lowest wrong bit.
+pub enum Wrong {
+    At(u32),
+    Nowhere,
+}
+
+// In one map record, whose first byte is the map's byte `first`: bytes outside, bits inside.
+fn wrong_in(map: &[u8], visited: Visited, first: usize) -> Wrong
+    requires { ⌜ (length (now map) ≤ 512) × (first < 4000000) ⌝ }
+    ensures { λ r. ⌜ wrongAt r ≡ lowestWrong (bitOf (visited .bits)) (8 * first) (now (map .entry)) ⌝ }
+{
+    let mut found = Wrong::Nowhere;
+    let mut i: usize = 0;
+    'bytes: while i < map.len() {
+        let x = map[i] as u32;
+        let y = byte_at(&visited.bits, first + i);
+        if x != y {
+            let mut j: u32 = 0;
+            'bits: while j < 8 {
+                if (x >> (7 - j)) & 1 != (y >> (7 - j)) & 1 {
+                    found = Wrong::At(((first + i) * 8) as u32 + j);
+                    break 'bytes;
+                }
+                j += 1;
+            }
+        }
+        i += 1;
+    }
+    found
+}
+
+// Test 9, in the header's map record and then along the chain.
+fn lowest_wrong(image: &[u8], visited: Visited) -> Wrong
+    requires { ⌜ Framed (now image) ⌝ }
+    ensures { λ r. ⌜ wrongAt r ≡ lowestWrong (bitOf (visited .bits)) 0 (mapBytes hfs (now (image .entry))) ⌝ }
+{
+    let mut found = wrong_in(&image[248..504], visited, 0);
+    let mut first: usize = 256;
+    let mut node = forward_of(image, 0);
+    let mut left = be32(image, 36);
+    while left > 0 {
+        if node == 0 {
+            break;
+        }
+        if let Wrong::At(_) = found {
+            return found;
+        }
+        let at = (node as usize) * 512 + 14;
+        found = wrong_in(&image[at..at + 494], visited, first);
+        first += 494;
+        node = forward_of(image, node);
+        left -= 1;
+    }
+    found
+}
+
+// Tests 9 and 10, where `visited` has the nodes reached from the header, and there are so many.
+pub fn map_tests(image: &[u8], visited: Visited, nodes: u32) -> Verdict
+    requires { ⌜ Framed (now image) ⌝ }
+    ensures { λ r. ⌜ ((ns : List ℕ) → Marks (visited .bits) ns → nodes ≡ length ns → r ≡ mapTests hfs (now (image .entry)) ns) ⌝ }
+{
+    let wrong = lowest_wrong(image, visited);
+    if let Wrong::At(bit) = wrong {
+        return Verdict {
+            number: 9,
+            place: bit,
+        };
+    }
+    let free = be32(image, 40) as u64;
+    if (nodes as u64) + free != be32(image, 36) as u64 {
+        return Verdict {
+            number: 10,
+            place: 0,
+        };
+    }
+    Verdict {
+        number: 0,
+        place: 0,
+    }
+}

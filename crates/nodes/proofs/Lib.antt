@@ -1,0 +1,4 @@
+pub mod Telling
+pub mod Bounds
+pub mod Ascent
+pub mod Whole

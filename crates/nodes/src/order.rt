@@ -1,0 +1,60 @@
+// Test 6: the order of a node's keys, and the key that points at it.
+ghost use mathlib.Core.Path.{_≡_};
+ghost use Prim.Native.Nat.{ℕ, pred, _<_};
+ghost use Rattle.btree.specs.Decide.{says};
+ghost use Rattle.btree.specs.Walk.{Under, Meets, decOrdered};
+ghost use Rattle.formats.specs.Format.{view};
+ghost use Rattle.nodes.specs.Tells.{Tells};
+ghost use Rattle.nodes.specs.Bound.{bound};
+use formats::key::key_at;
+use formats::records::key_of;
+use formats::records::record_at;
+use formats::records::record_step;
+use hfs::node::count_of;
+
+// The first key is the one that points at the node; 2 ^ 56 is the root's, which no key points at.
+fn first_meets(image: &[u8], node: u32, low: u64) -> bool
+    ensures { λ r. ⌜ Tells r (0 < view (now (image .entry)) .count node → Meets (view (now (image .entry)) .key node 0) (bound low)) ⌝ }
+{
+    if low == 72_057_594_037_927_936 {
+        return true;
+    }
+    if count_of(image, node) == 0 {
+        return true;
+    }
+    key_of(image, node, 0) == low
+}
+
+// The keys strictly ascend, below `high`.
+fn keys_rise(image: &[u8], node: u32, high: u64) -> bool
+    ensures { λ r. ⌜ Tells r ((i : ℕ) → i < view (now (image .entry)) .count node → (0 < i → view (now (image .entry)) .key node (pred i) < view (now (image .entry)) .key node i) × Under (view (now (image .entry)) .key node i) (bound high)) ⌝ }
+{
+    let c = count_of(image, node);
+    let step = record_step(image, node);
+    let mut at = record_at(image, node, 0);
+    let mut next: u64 = 0;
+    let mut i: u32 = 0;
+    while i < c {
+        let key = key_at(image, at);
+        if key < next {
+            return false;
+        }
+        if key >= high {
+            return false;
+        }
+        next = key + 1;
+        at += step;
+        i += 1;
+    }
+    true
+}
+
+// Test 6. Keys that ascend from the one that points at the node are not below it, so no other is held against it.
+pub fn keys_ordered(image: &[u8], node: u32, low: u64, high: u64) -> bool
+    ensures { λ r. ⌜ r ≡ says (decOrdered (view (now (image .entry))) (bound low) (bound high) node) ⌝ }
+{
+    if !first_meets(image, node, low) {
+        return false;
+    }
+    keys_rise(image, node, high)
+}
