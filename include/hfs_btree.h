@@ -17,7 +17,8 @@
  *       map chain or already met
  *   5   kind, level, reserved, count, offsets,     the node
  *       key length or fork byte
- *   6   key order or bounds along the path         the node
+ *   6   key order, bounds along the path, or a     the node; the child
+ *       pointer key that is not its child's first
  *   7   links                                      the node with the wrong link
  *   8   leaf records, first or last leaf           0
  *   9   map bits                                   the lowest wrong bit

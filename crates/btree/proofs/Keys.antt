@@ -1,6 +1,6 @@
 -- Test 6 of a node, by as little as has to be tested: where its keys ascend from the one that points at it, none is below that.
 -- Assumes nothing.
-use mathlib.Core.Path.{_≡_, refl}
+use mathlib.Core.Path.{refl}
 use mathlib.Core.Logic.{_↔_}
 use mathlib.Core.Option.{Option, none, some}
 use Prim.Native.Nat.{ℕ, zero, suc, pred, _≤_, _<_}

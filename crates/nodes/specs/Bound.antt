@@ -1,4 +1,4 @@
--- A bound on keys, as the code has it.
+-- A key that points at a node or bounds its keys, as the code has it.
 -- Assumes nothing.
 use mathlib.Core.Option.{Option, none, some}
 use Prim.Native.Nat.{ℕ}

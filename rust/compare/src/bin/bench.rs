@@ -22,7 +22,7 @@ fn main() {
     );
 
     // A key that no record has makes salvage read every node.
-    let (file, fork, start) = (0, 0x00, 0);
+    let Key { file, fork, start } = Key::from_rank(built.records[records - 1].key.rank() + 1);
     report(
         "salvage",
         || hfs_btree::salvage(image(), file, fork, start),
