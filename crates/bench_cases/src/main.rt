@@ -62,7 +62,7 @@ fn other_levels(name: &[u8], root: u32, leaves: u32) {
     say_other_levels(name, &mut image, root, leaves);
 }
 
-// A root over two leaves, of the files 1 and 2, with the low half of a file number and the start block of one of its keys, at this byte.
+// A root over two leaves, of the files 1 and 2, one of whose keys has another file number (its low half) and start block, at this byte.
 fn say_other_pointer(name: &[u8], image: &mut [u8], at: usize, key: u32)
     requires { ⌜ at ≤ 4000100 ⌝ }
 {

@@ -6,7 +6,8 @@ use mathlib.Core.Option.{Option, none, some}
 use Prim.Native.Nat.{ℕ, zero, suc, pred, _≤_, _<_}
 use native.Mathlib.Omega.{arith}
 use Rattle.btree.specs.Tree.{View}
-use Rattle.btree.specs.Walk.{Over, Under, Meets, Ordered}
+use Rattle.btree.specs.Walk.{Over, Meets, Ordered}
+use Rattle.btree.specs.Keys.{AllRise, FirstMeets}
 
 pub over-trans : (k b : ℕ) (o : Option ℕ) → b ≤ k → Over b o → Over k o
 over-trans k b none l u = tt
@@ -21,23 +22,15 @@ meets-over : (k : ℕ) (o : Option ℕ) → Meets k o → Over k o
 meets-over k none m = tt
 meets-over k (some b) m = omega arith
 
-module _ (v : View) where
+module _ (v : View) (lo hi : Option ℕ) (n : ℕ) where
   open View v using (count, key)
 
-  -- the key of record i is above the one before, and below the bound
-  abbrev pub Rises : Option ℕ → ℕ → ℕ → Type 0
-  Rises hi n i = (0 < i → key n (pred i) < key n i) × Under (key n i) hi
+  over-all : FirstMeets v lo n → AllRise v hi n → (i : ℕ) → i < count n → Over (key n i) lo
+  over-all f r zero u = meets-over (key n 0) lo (f u)
+  over-all f r (suc i) u = let l = r (suc i) u .0 (omega arith) in over-trans (key n (suc i)) (key n i) lo (omega arith) (over-all f r i (omega arith))
 
-  abbrev pub FirstMeets : Option ℕ → ℕ → Type 0
-  FirstMeets lo n = 0 < count n → Meets (key n 0) lo
-
-  module _ (lo hi : Option ℕ) (n : ℕ) where
-    over-all : FirstMeets lo n → ((i : ℕ) → i < count n → Rises hi n i) → (i : ℕ) → i < count n → Over (key n i) lo
-    over-all f r zero u = meets-over (key n 0) lo (f u)
-    over-all f r (suc i) u = let l = r (suc i) u .0 (omega arith) in over-trans (key n (suc i)) (key n i) lo (omega arith) (over-all f r i (omega arith))
-
-    pub ordered-iff : Ordered v lo hi n ↔ (FirstMeets lo n × ((i : ℕ) → i < count n → Rises hi n i))
-    ordered-iff = (
-      λ o. (λ u. o 0 u .first refl, λ i u. (o i u .rise, o i u .under)),
-      λ (f, r). λ i u. record { rise = r i u .0; over = over-all f r i u; under = r i u .1; first = λ e. rw e (f (omega arith)) },
-    )
+  pub ordered-iff : Ordered v lo hi n ↔ (FirstMeets v lo n × AllRise v hi n)
+  ordered-iff = (
+    λ o. (λ u. o 0 u .first refl, λ i u. (o i u .rise, o i u .under)),
+    λ (f, r). λ i u. record { rise = r i u .0; over = over-all f r i u; under = r i u .1; first = λ e. rw e (f (omega arith)) },
+  )

@@ -1,14 +1,14 @@
 -- Levels that fall by one from parent to child: each node's level and the levels above it make the depth.
 -- Assumes nothing.
-use mathlib.Core.Path.{_≡_, refl}
+use mathlib.Core.Path.{_≡_}
 use mathlib.Core.Logic.{_↔_}
-use mathlib.Core.List.{List·Memᴰ·head, List·Memᴰ·eq-of-singleton}
+use mathlib.Core.List.{List·Memᴰ·eq-of-singleton}
 use Prim.Native.Nat.{ℕ, zero, suc, _+_, _<_}
 use native.Mathlib.Omega.{arith}
 use Rattle.btree.specs.Lists.{_∈_}
 use Rattle.btree.specs.Tree.{View, below, OnLevel}
 use Rattle.btree.proofs.Lists.{span-mem}
-use Rattle.btree.proofs.Leaves.{on-child}
+use Rattle.btree.proofs.Leaves.{on-root, on-child}
 
 module _ (v : View) (level : ℕ → ℕ) where
   open View v using (depth, root, count, child)
@@ -33,12 +33,12 @@ module _ (v : View) (level : ℕ → ℕ) where
       there f d n o =
           let p = o .deep in
           let k = f .ofRoot (omega arith) in
-          let r = falls-below f 0 d root n (record { deep = omega arith; among = List·Memᴰ·head refl }) (omega arith) (omega arith) (o .among) in
+          let r = falls-below f 0 d root n (on-root v (omega arith)) (omega arith) (omega arith) (o .among) in
           omega arith
 
       back : ((d n : ℕ) → OnLevel v d n → level n + d ≡ depth) → Falls
       back h =
           record {
-            ofRoot = λ p. let k = h 0 root (record { deep = p; among = List·Memᴰ·head refl }) in omega arith;
+            ofRoot = λ p. let k = h 0 root (on-root v p) in omega arith;
             ofChild = λ d n i o p u. let k = h d n o in let l = h (suc d) (child n i) (on-child v d n i o u p) in omega arith;
           }

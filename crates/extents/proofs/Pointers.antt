@@ -2,16 +2,14 @@
 -- Assumes nothing.
 use mathlib.Core.Path.{_≡_}
 use mathlib.Core.Logic.{_↔_}
-use mathlib.Core.Option.{some}
 use mathlib.Core.List.{List}
 use Prim.Native.Nat.{ℕ, suc, _<_}
 use lib.ListN.{length}
 use Rattle.btree.specs.Lists.{_∈_}
 use Rattle.btree.specs.Tree.{Rec, OnLevel}
 use Rattle.btree.specs.Header.{depthOf, viewOf}
-use Rattle.btree.specs.Search.{Highest, Floor}
+use Rattle.btree.specs.Search.{Floor, AtPathEnd}
 use Rattle.btree.proofs.Leaves.{on-child}
-use Rattle.btree.proofs.Paths.{lastOf}
 use Rattle.btree.proofs.Floor as floor
 use Rattle.formats.specs.declared.key.Key.{Key}
 use Rattle.formats.specs.Key.{packed}
@@ -30,9 +28,7 @@ module _ (img : List ℕ) (s : Sound img) where
 
   module _ (k : Key) where
     -- of all leaf records the one with the highest key not above k is the one with the highest key not above k in the leaf where the search path of k ends
-    pub floor-iff : (x : Rec) → Floor (view img) (packed k) x
-        ↔ ((length (searchPath img k) ≡ depthOf img) × (lastOf (searchPath img k) ≡ some (x .node)) × Highest (view img) (x .node) (packed k) (x .at) × (view img .key (x .node) (x .at) ≡ x .key))
-    unfolding viewOf
+    pub floor-iff : (x : Rec) → Floor (view img) (packed k) x ↔ AtPathEnd (view img) (packed k) x
     floor-iff = floor.floor-iff (view img) (s .tree) (packed k) node-filled (s .totals)
 
     -- and the path is cut short only where every leaf record's key is above k

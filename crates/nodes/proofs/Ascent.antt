@@ -7,7 +7,7 @@ use native.Mathlib.Omega.{arith}
 use native.Mathlib.Decide.{ℕ-discrete}
 use Rattle.btree.specs.Tree.{View}
 use Rattle.btree.specs.Walk.{Under}
-use Rattle.btree.proofs.Keys.{Rises}
+use Rattle.btree.specs.Keys.{Rises}
 
 -- the first i keys rise
 pub record Upto (v : View) (hi : Option ℕ) (n i next : ℕ) : Type 0 where

@@ -1,4 +1,4 @@
--- A bound on keys as the code has it, 2 ^ 56 for none, and the bound that it stands for.
+-- A key that points at a node or bounds its keys as the code has it, 2 ^ 56 for none, and what it stands for.
 -- Assumes nothing.
 use mathlib.Core.Path.{_≡_, refl}
 use mathlib.Core.Logic.{_↔_}

@@ -1,8 +1,8 @@
 // Test 6: the order of a node's keys, and the key that points at it.
 ghost use mathlib.Core.Path.{_≡_};
-ghost use Prim.Native.Nat.{ℕ, pred, _<_};
 ghost use Rattle.btree.specs.Decide.{says};
-ghost use Rattle.btree.specs.Walk.{Under, Meets, decOrdered};
+ghost use Rattle.btree.specs.Walk.{decOrdered};
+ghost use Rattle.btree.specs.Keys.{AllRise, FirstMeets};
 ghost use Rattle.formats.specs.Format.{view};
 ghost use Rattle.nodes.specs.Tells.{Tells};
 ghost use Rattle.nodes.specs.Bound.{bound};
@@ -14,7 +14,7 @@ use hfs::node::count_of;
 
 // The first key is the one that points at the node; 2 ^ 56 is the root's, which no key points at.
 fn first_meets(image: &[u8], node: u32, low: u64) -> bool
-    ensures { λ r. ⌜ Tells r (0 < view (now (image .entry)) .count node → Meets (view (now (image .entry)) .key node 0) (bound low)) ⌝ }
+    ensures { λ r. ⌜ Tells r (FirstMeets (view (now (image .entry))) (bound low) node) ⌝ }
 {
     if low == 72_057_594_037_927_936 {
         return true;
@@ -27,7 +27,7 @@ fn first_meets(image: &[u8], node: u32, low: u64) -> bool
 
 // The keys strictly ascend, below `high`.
 fn keys_rise(image: &[u8], node: u32, high: u64) -> bool
-    ensures { λ r. ⌜ Tells r ((i : ℕ) → i < view (now (image .entry)) .count node → (0 < i → view (now (image .entry)) .key node (pred i) < view (now (image .entry)) .key node i) × Under (view (now (image .entry)) .key node i) (bound high)) ⌝ }
+    ensures { λ r. ⌜ Tells r (AllRise (view (now (image .entry))) (bound high) node) ⌝ }
 {
     let c = count_of(image, node);
     let step = record_step(image, node);

@@ -1,15 +1,16 @@
 -- The steps along the entries below a node, in the code's terms: from record i to i + 1, of c.
 -- Assumes nothing.
 use mathlib.Core.Path.{_≡_, refl, ap, _∙_}
-use mathlib.Core.Option.{Option, some}
+use mathlib.Core.Option.{Option}
 use mathlib.Core.List.{List, [], _∷_, _++_}
 use Prim.Native.Nat.{ℕ, suc, _+_, _-_, _<_, _≤_}
 use native.Mathlib.Omega.{arith}
 use native.Mathlib.Numerals.{add-one}
 use Rattle.btree.specs.Lists.{span}
 use Rattle.btree.specs.Tree.{View}
-use Rattle.btree.specs.Walk.{Entry, above, entries}
+use Rattle.btree.specs.Walk.{Entry, entries}
 use Rattle.btree.proofs.Left.{one-more, none-left}
+use Rattle.btree.proofs.Entries.{kid}
 use Rattle.step.specs.declared.state.Walk.{Walk}
 use Rattle.walk.specs.declared.visit.Pointer.{Pointer}
 use Rattle.nodes.specs.Bound.{bound}
@@ -28,10 +29,6 @@ module _ (v : View) where
   steps-stuck w [] h = refl
   steps-stuck w (x ∷ es) h = rw (step-stuck v w x h) (steps-stuck w es h)
 
-  -- the entries below record i of the node n, on level d, with h levels below the records' children
-  abbrev pub kid : ℕ → ℕ → Option ℕ → ℕ → ℕ → List Entry
-  kid h d hi n i = entries v h (suc d) n (some (v .key n i)) (above v n i hi) (v .child n i)
-
   module _ (w : Walk) (b d pa : ℕ) (lo hi : Option ℕ) (n : ℕ) where
     pub steps-leaf : b ≡ 0 → steps v w (entries v b d pa lo hi n) ≡ step v w (record { node = n; parent = pa; level = d; low = lo; high = hi })
     unfolding steps
@@ -39,7 +36,7 @@ module _ (v : View) where
 
     pub steps-index : (b ≡ 0 → ⊥)
         → steps v w (entries v b d pa lo hi n)
-        ≡ steps v (step v w (record { node = n; parent = pa; level = d; low = lo; high = hi })) (span 0 (v .count n) (kid (b - 1) d hi n))
+        ≡ steps v (step v w (record { node = n; parent = pa; level = d; low = lo; high = hi })) (span 0 (v .count n) (kid v (b - 1) d hi n))
     unfolding steps
     steps-index h = let e : b ≡ suc (b - 1) = omega arith in ap (λ (k : ℕ). steps v w (entries v k d pa lo hi n)) e
 
@@ -49,8 +46,8 @@ module _ (v : View) where
 
   pub kids-on : (h d n high : ℕ) (w r : Walk) (c i : ℕ) (p : Pointer) → i < c → Points v n i high p
       → r ≡ steps v w (entries v h (d + 1) n (bound (p .low)) (bound (p .high)) (p .child))
-      → steps v w (span i (c - i) (kid h d (bound high) n)) ≡ steps v r (span (i + 1) (c - (i + 1)) (kid h d (bound high) n))
+      → steps v w (span i (c - i) (kid v h d (bound high) n)) ≡ steps v r (span (i + 1) (c - (i + 1)) (kid v h d (bound high) n))
   kids-on h d n high w r c i p l q e =
-      ap (λ (k : ℕ). steps v w (span i k (kid h d (bound high) n))) (one-more c i l)
-      ∙ steps-append w (kid h d (bound high) n i) (span (suc i) (c - (i + 1)) (kid h d (bound high) n))
+      ap (λ (k : ℕ). steps v w (span i k (kid v h d (bound high) n))) (one-more c i l)
+      ∙ steps-append w (kid v h d (bound high) n i) (span (suc i) (c - (i + 1)) (kid v h d (bound high) n))
       ∙ rw (e, q .child, q .low, q .under, add-one d, add-one i)

@@ -189,34 +189,29 @@ fn bounds_below() {
     gives(&[index_key(3, 1, file_key(60))], 6, 6);
 }
 
+/// The pointer's key is its child's first key, of this file; other files, the nearest keys and the
+/// other fork are faults of the child.
+fn pointer_must_match(parent: usize, record: usize, first: u32, others: &[u32], child: u32) {
+    let nearest = [Key::new(first - 1, 0xFF, u16::MAX), Key::new(first, 0x00, 1)];
+    let other_fork = [Key::new(first, 0xFF, 0)];
+    let others = others.iter().map(|&file| file_key(file));
+    for key in others.chain(nearest).chain(other_fork) {
+        gives(&[index_key(parent, record, key)], 6, child);
+    }
+}
+
 #[test]
 fn pointers_of_the_root_to_index_nodes() {
     // The lowest file with room, the next below, the next above and one above the child's last.
-    for file in [0, 9, 11, 31] {
-        gives(&[index_key(1, 0, file_key(file))], 6, 2);
-    }
-    for file in [41, 49, 51, 81] {
-        gives(&[index_key(1, 1, file_key(file))], 6, 3);
-    }
-    // The nearest keys, and the other fork.
-    gives(&[index_key(1, 1, Key::new(49, 0xFF, u16::MAX))], 6, 3);
-    gives(&[index_key(1, 1, Key::new(50, 0x00, 1))], 6, 3);
-    gives(&[index_key(1, 1, Key::new(50, 0xFF, 0))], 6, 3);
+    pointer_must_match(1, 0, 10, &[0, 9, 11, 31], 2);
+    pointer_must_match(1, 1, 50, &[41, 49, 51, 81], 3);
 }
 
 #[test]
 fn pointers_to_leaves() {
     // The lowest file with room, the next below, the next above, the child's last and one above.
-    for file in [21, 29, 31, 40, 41] {
-        gives(&[index_key(2, 1, file_key(file))], 6, 5);
-    }
-    for file in [61, 69, 71, 80, 81] {
-        gives(&[index_key(3, 1, file_key(file))], 6, 7);
-    }
-    // The nearest keys, and the other fork.
-    gives(&[index_key(2, 1, Key::new(29, 0xFF, u16::MAX))], 6, 5);
-    gives(&[index_key(2, 1, Key::new(30, 0x00, 1))], 6, 5);
-    gives(&[index_key(2, 1, Key::new(30, 0xFF, 0))], 6, 5);
+    pointer_must_match(2, 1, 30, &[21, 29, 31, 40, 41], 5);
+    pointer_must_match(3, 1, 70, &[61, 69, 71, 80, 81], 7);
 }
 
 #[test]

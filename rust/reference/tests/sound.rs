@@ -2,6 +2,7 @@
 
 use images::{build, samples, Built, Plan};
 use reference::{check, leaf_records, Verdict};
+use std::ops::{Range, RangeInclusive};
 
 fn assert_sound(built: &Built, name: &str) {
     assert_eq!(check(&built.image), Verdict::SOUND, "{name}");
@@ -11,6 +12,20 @@ fn assert_sound(built: &Built, name: &str) {
         let key = (listed.key.file, listed.key.fork, listed.key.start);
         assert_eq!(key, (record.key.file, record.key.fork, record.key.start), "{name}");
         assert_eq!(listed.data, record.data, "{name}");
+    }
+}
+
+fn each_random(
+    depths: RangeInclusive<usize>,
+    seeds: Range<u64>,
+    widest: usize,
+    test: fn(&Built, &str),
+) {
+    for depth in depths {
+        for seed in seeds.clone() {
+            let built = build(&Plan::random(seed, depth, widest));
+            test(&built, &format!("depth {depth} seed {seed}"));
+        }
     }
 }
 
@@ -33,34 +48,19 @@ fn assert_pointers_match(built: &Built, name: &str) {
 
 #[test]
 fn every_pointer_has_the_first_key_of_its_child() {
-    for depth in 0..=8 {
-        for seed in 0..20 {
-            let built = build(&Plan::random(seed, depth, 40));
-            assert_pointers_match(&built, &format!("depth {depth} seed {seed}"));
-        }
-    }
+    each_random(0..=8, 0..20, 40, assert_pointers_match);
     assert_pointers_match(&samples::three_level(), "three_level");
     assert_pointers_match(&samples::largest(), "largest");
 }
 
 #[test]
 fn random_trees_of_every_depth() {
-    for depth in 0..=8 {
-        for seed in 0..60 {
-            let built = build(&Plan::random(seed, depth, 40));
-            assert_sound(&built, &format!("depth {depth} seed {seed}"));
-        }
-    }
+    each_random(0..=8, 0..60, 40, assert_sound);
 }
 
 #[test]
 fn wide_random_trees() {
-    for depth in 2..=5 {
-        for seed in 100..110 {
-            let built = build(&Plan::random(seed, depth, 1_100));
-            assert_sound(&built, &format!("depth {depth} seed {seed}"));
-        }
-    }
+    each_random(2..=5, 100..110, 1_100, assert_sound);
 }
 
 #[test]

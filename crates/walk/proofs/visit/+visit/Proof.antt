@@ -12,7 +12,8 @@ use Rattle.formats.specs.Format.{view}
 use Rattle.nodes.specs.Bound.{bound}
 use Rattle.walk.specs.Visit.{steps}
 use Rattle.step.specs.Room.{Small}
-use Rattle.walk.proofs.Steps.{kid, steps-stuck, steps-leaf, steps-index, kids-end, kids-on}
+use Rattle.btree.proofs.Entries.{kid}
+use Rattle.walk.proofs.Steps.{steps-stuck, steps-leaf, steps-index, kids-end, kids-on}
 use borrow.Fn.Kinds.{In}
 use borrow.Fn.PlainCycle.{Measures, is, falls, and}
 use Rattle.walk.proofs.visit.visit.Reads as visit
