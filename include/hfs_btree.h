@@ -58,13 +58,17 @@ void hfs_check(const uint8_t *image, size_t len, uint32_t out[2]);
  * out[0]   0 found, 12 absent, else the number of the refusal: 11, or the image's first fault
  * out[1]   found: the node; absent: the last node read; refused: the place
  * out[2]   found: the record in the node; else 0
- * out[3]   how many nodes the search went through; 0 if refused
- * out[4]   .. out[11]  these nodes, from the root down; unused places are 0
+ * out[3]   how many keys the search compared, in all nodes it went through, at most six in each; 0
+ *          if refused. In a node it compares the middle one of the records left, of two the later,
+ *          and goes on after it if its key is not above the asked one, else before it, until none
+ *          is left
+ * out[4]   how many nodes the search went through; 0 if refused
+ * out[5]   .. out[12]  these nodes, from the root down; unused places are 0
  * data     found: the record's 12 data bytes, three pairs of first block and block count,
  *          big-endian; else zeros
  */
 void hfs_lookup(const uint8_t *image, size_t len, uint32_t file, uint8_t fork, uint16_t start,
-                uint32_t out[12], uint8_t data[12]);
+                uint32_t out[13], uint8_t data[12]);
 
 /*
  * What can be seen under this key in an image of any state? From node 1 up, the first record with

@@ -16,9 +16,10 @@ verdictNumbers t = t .number ∷ t .place ∷ []
 abbrev pub replyNumbers : Reply → List ℕ
 replyNumbers r = r .number ∷ r .place ∷ r .entry ∷ []
 
--- "It comes with a road of up to eight node numbers and its length, unused places 0"; the length comes first
+-- W-202: "A lookup also answers how many keys it compared so, in all"; "It comes with a road of up to eight node numbers and its length, unused places 0":
+-- the length comes first
 abbrev pub lookupNumbers : Lookup → List ℕ
-lookupNumbers l = replyNumbers (lookupReply (l .answer)) ++ (l .path .len ∷ l .path .nodes)
+lookupNumbers l = replyNumbers (lookupReply (l .answer)) ++ (l .compared ∷ l .path .len ∷ l .path .nodes)
 
 -- the bytes of a part, with zeros up to twelve: all zeros for the empty part
 abbrev pub dataBytes : List ℕ → Part → List ℕ

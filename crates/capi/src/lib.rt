@@ -29,7 +29,7 @@ fn lookup_reply(answer: Answer) -> [u32; 3]
     }
 }
 
-fn lookup_numbers(found: Lookup) -> [u32; 12]
+fn lookup_numbers(found: Lookup) -> [u32; 13]
     ensures { λ r. ⌜ r ≡ lookupNumbers found ⌝ }
 {
     let answer = found.answer;
@@ -40,6 +40,7 @@ fn lookup_numbers(found: Lookup) -> [u32; 12]
         reply[0],
         reply[1],
         reply[2],
+        found.compared,
         path.len,
         p[0],
         p[1],
@@ -76,14 +77,14 @@ fn found_data(image: &[u8], answer: Answer) -> [u8; 12]
     }
 }
 
-// Number, node or place, record, path length, eight nodes of the path; and the record's data.
+// Number, node or place, record, keys compared, path length, eight nodes of the path; and the record's data.
 #[no_mangle]
 pub extern "C" fn hfs_lookup(
     image: &[u8],
     file: u32,
     fork: u8,
     start: u16,
-    out: &mut [u32; 12],
+    out: &mut [u32; 13],
     data: &mut [u8; 12],
 )
     ensures numbers { λ _. ⌜ now (out .exit) ≡ lookupNumbers (lookedUp (now (image .entry)) (asked file fork start)) ⌝ }

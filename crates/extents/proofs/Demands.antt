@@ -12,16 +12,16 @@ use Rattle.btree.specs.declared.Lookup.{Lookup}
 use Rattle.btree.specs.Lists.{_∈_, lastOr}
 use Rattle.btree.specs.Tree.{Rec, leavesAt}
 use Rattle.btree.specs.Header.{depthOf, viewOf}
-use Rattle.btree.specs.Search.{pathOf, answerOf, pathOut, refused, afterCheck, lookupOf}
+use Rattle.btree.specs.Search.{answerOf, refused, searched, afterCheck, lookupOf}
 use Rattle.btree.proofs.Paths.{path-short, leaf-stands, leafList-once}
 use Rattle.btree.proofs.Answers.{found-record, record-found, absent-none, none-absent, absent-place}
 use Rattle.formats.specs.declared.key.Key.{Key}
 use Rattle.formats.specs.Key.{Lawful, decLawful, packed, keyAt}
 use Rattle.formats.specs.Format.{recordAt, keyOf, view, dataAt}
-use Rattle.extents.specs.Reader.{Sound, verdict, leafList, searchPath, lookedUp}
+use Rattle.extents.specs.Reader.{Sound, verdict, leafList, searchPath, keysCompared, lookedUp}
 use Rattle.extents.specs.Demands.{HasKey, SoundAnswer, LookupSays}
-use Rattle.search.specs.Descent.{Descends}
 use Rattle.formats.proofs.Order.{InRange, Bytes, key-range, packed-same}
+use Rattle.extents.proofs.Compared.{six-each}
 use Rattle.extents.proofs.Parts.{leaf-inside}
 use Rattle.extents.proofs.Soundness.{number-iff}
 
@@ -34,20 +34,28 @@ module _ (img : List ℕ) (b : Bytes img) (k : Key) (r : InRange k) (s : Sound i
       let q = packed-same (keyAt img (recordAt img (x .node) (x .at))) k (key-range img b (recordAt img (x .node) (x .at))) r in
       (λ h. sym e ∙ q .0 h, λ h. q .1 (e ∙ h))
 
-  sound-answer : (l : Lookup) → l .answer ≡ answerOf (view img) (packed k) → l .path ≡ pathOut (searchPath img k) → SoundAnswer img k l
+  sound-answer : (l : Lookup) → l ≡ searched (view img) (packed k) → SoundAnswer img k l
   unfolding viewOf
-  sound-answer l a p =
+  sound-answer l e =
       record {
         found = λ n i. (found n i, finds n i);
         once = λ x y mx my hx hy. leafList-once (view img) (s .tree) (s .totals) x y mx my (has-packed x mx .0 hx ∙ sym (has-packed y my .0 hy));
         absent = (none, absents);
         place = λ n e. sym (absent-place (view img) (packed k) n (sym a ∙ e));
-        path = p;
+        path = ap (λ (l : Lookup). l .path) e;
         whole = whole;
         short = path-short (view img) (packed k);
         eight = s .header .depthInRange;
+        counted = c;
+        few = rw c (six-each img s (packed k));
       }
     where
+      a : l .answer ≡ answerOf (view img) (packed k)
+      a = ap (λ (l : Lookup). l .answer) e
+
+      c : l .compared ≡ keysCompared img k
+      c = ap (λ (l : Lookup). l .compared) e
+
       found : (n i : ℕ) → l .answer ≡ Found n i → (x : Rec) × (x ∈ leafList img) × (HasKey img k x) × (x .node ≡ n) × (x .at ≡ i)
       found n i e =
           let m = found-record (view img) (s .tree) (s .totals) (packed k) n i (sym a ∙ e) in
@@ -85,7 +93,7 @@ module _ (img : List ℕ) (b : Bytes img) (k : Key) (r : InRange k) where
       go (yes p) = absurd (h p)
       go (no n) = refl
 
-  checked : (n place : ℕ) → n ≡ 0 → afterCheck (view img) (packed k) n place ≡ record { answer = answerOf (view img) (packed k); path = pathOut (pathOf (view img) (packed k)) }
+  checked : (n place : ℕ) → n ≡ 0 → afterCheck (view img) (packed k) n place ≡ searched (view img) (packed k)
   checked n place e = rw e
 
   faulty : (n place : ℕ) → (n ≡ 0 → ⊥) → afterCheck (view img) (packed k) n place ≡ refused n place
@@ -96,25 +104,19 @@ module _ (img : List ℕ) (b : Bytes img) (k : Key) (r : InRange k) where
   pub lookup-refused : Lawful (k .fork) → (verdict img .number ≡ 0 → ⊥) → lookedUp img k ≡ refused (verdict img .number) (verdict img .place)
   lookup-refused h z = of-lawful h ∙ faulty (verdict img .number) (verdict img .place) z
 
-  pub lookup-answers : Lawful (k .fork) → verdict img .number ≡ 0 → lookedUp img k ≡ record { answer = answerOf (view img) (packed k); path = pathOut (pathOf (view img) (packed k)) }
+  pub lookup-answers : Lawful (k .fork) → verdict img .number ≡ 0 → lookedUp img k ≡ searched (view img) (packed k)
   lookup-answers h z = of-lawful h ∙ checked (verdict img .number) (verdict img .place) z
 
   pub lookup-says : LookupSays img k (lookedUp img k)
   lookup-says =
       record {
-        ofSound = λ s h.
-            let e = lookup-answers h (number-iff img .1 s) in
-            sound-answer img b k r s (lookedUp img k) (ap (λ (l : Lookup). l .answer) e) (ap (λ (l : Lookup). l .path) e);
+        ofSound = λ s h. sound-answer img b k r s (lookedUp img k) (lookup-answers h (number-iff img .1 s));
         ofUnlawful = lookup-unlawful;
         ofUnsound = λ h n. lookup-refused h (λ z. n (number-iff img .0 z));
       }
 
   pub answered : (l : Lookup) → l ≡ lookedUp img k → (l ≡ lookedUp img k) × LookupSays img k l
   answered l e = (e, rw e lookup-says)
-
-  -- what the descent gives is the answer
-  pub descended : (l : Lookup) → Lawful (k .fork) → verdict img .number ≡ 0 → Descends img (packed k) l → l ≡ lookedUp img k
-  descended l h z d = (λ i. record { answer = d .answer i; path = d .path i }) ∙ sym (lookup-answers h z)
 
   -- found is said of a sound image alone, at a record of a leaf
   pub found-sound : (n i : ℕ) → lookedUp img k .answer ≡ Found n i → Sound img × (n ∈ leavesAt (view img) (view img .depth)) × (i < view img .count n)

@@ -3,7 +3,7 @@
 use mathlib.Core.Path.{_≡_}
 use mathlib.Core.Logic.{_↔_}
 use mathlib.Core.List.{List}
-use Prim.Native.Nat.{ℕ, _≤_}
+use Prim.Native.Nat.{ℕ, _*_, _≤_}
 use denote.Ref.{RefT}
 use lib.IntN.{pos}
 use lib.ListN.{length}
@@ -17,7 +17,7 @@ use Rattle.btree.specs.Search.{pathOut, refused}
 use Rattle.formats.specs.declared.key.Key.{Key}
 use Rattle.formats.specs.Key.{Lawful, compared, keyAt}
 use Rattle.formats.specs.Format.{recordAt}
-use Rattle.extents.specs.Reader.{Sound, verdict, leafList, searchPath, Part}
+use Rattle.extents.specs.Reader.{Sound, verdict, leafList, searchPath, keysCompared, Part}
 
 -- "A record has the asked key when the two keys compare as 0."
 abbrev pub HasKey : List ℕ → Key → Rec → Type 0
@@ -39,6 +39,9 @@ pub record SoundAnswer (img : List ℕ) (k : Key) (r : Lookup) : Type 0 where
   pub whole : (n i : ℕ) → r .answer ≡ Found n i → length (searchPath img k) ≡ depthOf img
   pub short : length (searchPath img k) ≤ depthOf img
   pub eight : depthOf img ≤ 8
+  -- W-202: "how many keys it compared so, in all: at most six in a 512-byte node"
+  pub counted : r .compared ≡ keysCompared img k
+  pub few : r .compared ≤ 6 * length (searchPath img k)
 
 -- what a lookup says of any image and any key; "Of anything else it says neither: it refuses."
 pub record LookupSays (img : List ℕ) (k : Key) (r : Lookup) : Type 0 where

@@ -34,6 +34,10 @@ leafList img = search.leafList (view img)
 abbrev pub searchPath : List ℕ → Key → List ℕ
 searchPath img k = search.pathOf (view img) (packed k)
 
+-- W-202: "how many keys it compared so, in all"
+abbrev pub keysCompared : List ℕ → Key → ℕ
+keysCompared img k = search.comparedOf (view img) (packed k)
+
 abbrev pub lookedUp : List ℕ → Key → Lookup
 lookedUp img k = search.lookupOf (view img) (verdict img) (decLawful (k .fork)) (packed k)
 

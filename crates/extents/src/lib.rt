@@ -69,7 +69,11 @@ fn refusal(number: u32, place: u32) -> Lookup
         nodes: [0; 8],
         len: 0,
     };
-    Lookup { answer, path }
+    Lookup {
+        answer,
+        path,
+        compared: 0,
+    }
 }
 
 // What stands under a key: first the fork byte is judged, then the whole image, and only then the tree is searched.

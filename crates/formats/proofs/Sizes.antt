@@ -31,6 +31,13 @@ module _ (kind : ℕ) where
   unfolding maxRecords
   max-index e = cond-no (ℕ-discrete kind leafKind) 22 35 e
 
+  pub max-most : maxRecords kind ≤ 35
+  max-most = go (ℕ-discrete kind leafKind)
+    where
+      go : Dec (kind ≡ leafKind) → maxRecords kind ≤ 35
+      go (yes e) = let m = max-leaf e in omega arith
+      go (no e) = let m = max-index e in omega arith
+
 -- from one record to the next
 pub record-next : (img : List ℕ) (n i : ℕ) → recordAt img n (i + 1) ≡ recordAt img n i + recordSize (kindOf img n)
 unfolding recordAt

@@ -1,4 +1,4 @@
-pub mod Finding
+pub mod Narrowing
 pub mod Stored
 pub mod Looking
 pub mod Matches

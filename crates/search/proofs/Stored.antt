@@ -1,19 +1,28 @@
--- The descent, node after node: what is left of the path from here, stored after what is there, is the whole path.
+-- The descent, node after node: what is left of the path from here, stored after what is there, is the whole path; and so are the keys compared in it.
 -- Assumes nothing.
 use mathlib.Core.Path.{_≡_, refl, sym, ap, _∙_}
-use mathlib.Core.Option.{none, some}
+use mathlib.Core.Logic.{_≢_}
+use mathlib.Core.Option.{Option, none, some}
 use mathlib.Core.List.{List, [], _∷_, _++_, append-assoc}
-use Prim.Native.Nat.{ℕ, zero, suc, _+_, _-_, _≤_, _<_}
+use Prim.Native.Nat.{ℕ, zero, suc, _+_, _-_, _*_, _≤_, _<_}
 use native.Mathlib.Omega.{arith}
 use native.Mathlib.Numerals.{add-one}
 use lib.ListN.{length, set, replicate, length-append, length-set}
 use lib.Seq.{set-append-seam}
-use Rattle.btree.specs.Lists.{padded, fromOption}
-use Rattle.btree.specs.Tree.{View}
-use Rattle.btree.specs.Search.{highestOf, pathFrom, pathAt, answerFrom, answerAt}
+use Rattle.btree.specs.declared.Answer.{Answer}
 use Rattle.btree.specs.declared.Answer.the-variants.{Absent}
-use Rattle.btree.proofs.Paths.{path-length}
+use Rattle.btree.specs.declared.Halved.{Halved}
+use Rattle.btree.specs.declared.Lookup.{Lookup}
+use Rattle.btree.specs.Lists.{padded, summed, fromOption}
+use Rattle.btree.specs.Tree.{View, OnLevel, SoundTree}
+use Rattle.btree.specs.Halving.{before}
+use Rattle.btree.specs.Search.{Highest, highestOf, pathFrom, pathAt, inLeaf, answerFrom, answerAt, halvedIn, halvedTo, withKey, pathOut, searched}
+use Rattle.btree.proofs.Leaves.{on-root, on-child}
+use Rattle.btree.proofs.Paths.{highest-some, path-length}
+use Rattle.btree.proofs.Halving.{halved-pointer, halved-leaf}
 use Rattle.btree.proofs.Left.{one-more}
+use Rattle.search.specs.Descent.{stoppedAt}
+use Rattle.search.proofs.Narrowing.{before-none, before-some}
 
 -- numbers stored from place i on
 abbrev pub stored : List ℕ → ℕ → List ℕ → List ℕ
@@ -38,7 +47,7 @@ module _ (v : View) (k : ℕ) where
   open View v using (count, child)
 
   -- the path from a node with h levels below it, but for that node
-  abbrev pub pathTail : ℕ → ℕ → List ℕ
+  abbrev pathTail : ℕ → ℕ → List ℕ
   pathTail zero n = []
   pathTail (suc h) n = fromOption (highestOf v n k (count n)) (λ i. pathFrom v h k (child n i))
 
@@ -46,58 +55,98 @@ module _ (v : View) (k : ℕ) where
   path-head zero n = refl
   path-head (suc h) n = refl
 
-  -- the nodes stored, the last of which is `node`, where the tree has so many levels
-  pub record Stored (depth : ℕ) (nodes : List ℕ) (node len : ℕ) : Type 0 where
+  -- the keys compared in these nodes
+  abbrev keysIn : List ℕ → ℕ
+  keysIn = summed (λ n. halvedIn v k n .compared)
+
+  -- the nodes stored, the last of which is `node`, and the keys compared in those before it
+  pub record Stored (depth : ℕ) (nodes : List ℕ) (node len compared : ℕ) : Type 0 where
     pub some : 0 < len
     pub few : len ≤ depth
+    pub deep : depth ≡ v .depth
     pub shallow : depth ≤ 8
     pub long : length nodes ≡ 8
+    pub on : OnLevel v (len - 1) node
     pub path : stored nodes len (pathTail (depth - len) node) ≡ padded 8 (pathAt v depth k)
     pub size : len + length (pathTail (depth - len) node) ≡ length (pathAt v depth k)
     pub answer : answerFrom v (depth - len) k node ≡ answerAt v depth k
+    pub tally : compared + keysIn (node ∷ pathTail (depth - len) node) ≡ keysIn (pathAt v depth k)
+    pub low : compared ≤ 65536 * (len - 1)
 
-  pub stored-root : (depth : ℕ) → (depth ≡ 0 → ⊥) → depth ≤ 8 → Stored depth (set (replicate 8 0) 0 (v .root)) (v .root) 1
-  stored-root zero z h = absurd (z refl)
-  stored-root (suc d) z h =
+  pub stored-none : v .depth ≡ 0 → stoppedAt (replicate 8 0) 0 0 0 ≡ searched v k
+  stored-none e = rw e
+
+  pub stored-root : (depth : ℕ) → depth ≢ 0 → depth ≡ v .depth → depth ≤ 8 → Stored depth (set (replicate 8 0) 0 (v .root)) (v .root) 1 0
+  stored-root zero z f h = absurd (z refl)
+  stored-root (suc d) z f h =
       let e : suc d - 1 ≡ d = omega arith in
       let p = path-head d (v .root) in
       let l = path-length v d k (v .root) in
       record {
         some = omega arith;
         few = omega arith;
+        deep = f;
         shallow = h;
         long = length-set (replicate 8 0) 0 (v .root);
+        on = on-root v (omega arith);
         path = rw (e, p) (stored-after [] (v .root ∷ pathTail d (v .root)) 8 (let q = ap length p in omega arith));
         size = rw (e, p) (omega arith);
         answer = rw e;
+        tally = rw (e, p) (omega arith);
+        low = omega arith;
       }
 
-  module _ (depth : ℕ) (nodes : List ℕ) (node len : ℕ) (s : Stored depth nodes node len) where
-    pub stored-child : (i : ℕ) → len < depth → highestOf v node k (count node) ≡ some i → Stored depth (set nodes len (child node i)) (child node i) (len + 1)
-    stored-child i l e =
+  module _ (s : SoundTree v) (depth : ℕ) (nodes : List ℕ) (node len compared : ℕ) (t : Stored depth nodes node len compared) (r : Halved) (is : r ≡ halvedIn v k node) where
+    -- the pointer that halving comes to is the one with the highest key not above k
+    pointer : (o : Option ℕ) → before (r .after) ≡ o → highestOf v node k (count node) ≡ o
+    pointer o e = halved-pointer v s k (len - 1) node (t .on) ∙ ap (λ (x : Halved). before (x .after)) (sym is) ∙ e
+
+    same-count : r .compared ≡ halvedIn v k node .compared
+    same-count = ap (λ (x : Halved). x .compared) is
+
+    -- on to the child of the record before the end
+    pub stored-child : len < depth → r .after ≢ 0 → r .compared < 65536 → Stored depth (set nodes len (child node (r .after - 1))) (child node (r .after - 1)) (len + 1) (compared + r .compared)
+    stored-child l z few =
+        let i = r .after - 1 in
+        let e = pointer (some i) (before-some (r .after) z) in
         let h = depth - (len + 1) in
         let q = one-more depth len l in
-        let t : pathTail (depth - len) node ≡ child node i ∷ pathTail h (child node i) = rw (q, e) (path-head h (child node i)) in
+        let w : pathTail (depth - len) node ≡ child node i ∷ pathTail h (child node i) = rw (q, e) (path-head h (child node i)) in
+        let u : suc (len - 1) ≡ len + 1 - 1 = let p = t .some in omega arith in
         record {
           some = omega arith;
           few = omega arith;
-          shallow = s .shallow;
-          long = length-set nodes len (child node i) ∙ s .long;
-          path = ap (λ (j : ℕ). stored (set nodes len (child node i)) j (pathTail h (child node i))) (add-one len) ∙ sym (ap (stored nodes len) t) ∙ s .path;
-          size = let a = ap length t in let b = s .size in omega arith;
-          answer = sym (rw (q, e)) ∙ s .answer;
+          deep = t .deep;
+          shallow = t .shallow;
+          long = length-set nodes len (child node i) ∙ t .long;
+          on = rw (← u) (on-child v (len - 1) node i (t .on) (highest-some v node k i e .inside) (let p = t .some in let d = t .deep in omega arith));
+          path = ap (λ (j : ℕ). stored (set nodes len (child node i)) j (pathTail h (child node i))) (add-one len) ∙ sym (ap (stored nodes len) w) ∙ t .path;
+          size = let a = ap length w in let b = t .size in omega arith;
+          answer = sym (rw (q, e)) ∙ t .answer;
+          tally = let a = ap keysIn w in let b = t .tally in let c = same-count in omega arith;
+          low = let a = t .low in let p = t .some in omega arith;
         }
 
+    finish : (x : Answer) → x ≡ answerAt v depth k → pathTail (depth - len) node ≡ [] → record { answer = x; path = record { nodes = nodes; len = len }; compared = compared + r .compared } ≡ searched v k
+    finish x e w =
+        let p : nodes ≡ padded 8 (pathAt v depth k) = sym (ap (stored nodes len) w) ∙ t .path in
+        let n : len ≡ length (pathAt v depth k) = let a = ap length w in let b = t .size in omega arith in
+        let c : compared + r .compared ≡ keysIn (pathAt v depth k) = let a = ap keysIn w in let b = t .tally in let d = same-count in omega arith in
+        rw (e, p, n, c, t .deep)
+
     -- no pointer key is low enough
-    pub stops-path : len < depth → highestOf v node k (count node) ≡ none → (nodes ≡ padded 8 (pathAt v depth k)) × (len ≡ length (pathAt v depth k)) × (Absent node ≡ answerAt v depth k)
-    stops-path l e =
+    pub stops-path : len < depth → r .after ≡ 0 → stoppedAt nodes len node (compared + r .compared) ≡ searched v k
+    stops-path l z =
+        let e = pointer none (before-none (r .after) z) in
         let q = one-more depth len l in
-        let t : pathTail (depth - len) node ≡ [] = rw (q, e) in
-        (sym (ap (stored nodes len) t) ∙ s .path, (let a = ap length t in let b = s .size in omega arith), sym (rw (q, e)) ∙ s .answer)
+        finish (Absent node) (sym (rw (q, e)) ∙ t .answer) (rw (q, e))
 
     -- the leaf is reached
-    pub ends-path : depth ≤ len → (nodes ≡ padded 8 (pathAt v depth k)) × (len ≡ length (pathAt v depth k)) × (answerFrom v 0 k node ≡ answerAt v depth k)
-    ends-path l =
-        let q : depth - len ≡ 0 = let f = s .few in omega arith in
-        let t : pathTail (depth - len) node ≡ [] = rw q in
-        (sym (ap (stored nodes len) t) ∙ s .path, (let a = ap length t in let b = s .size in omega arith), sym (rw q) ∙ s .answer)
+    pub ends-path : (x : Answer) → depth ≤ len → x ≡ inLeaf v node (withKey v k node (before (r .after)))
+        → record { answer = x; path = record { nodes = nodes; len = len }; compared = compared + r .compared } ≡ searched v k
+    ends-path x l e =
+        let q : depth - len ≡ 0 = let f = t .few in omega arith in
+        let w : answerFrom v 0 k node ≡ answerAt v depth k = sym (rw q) ∙ t .answer in
+        finish x
+        (e ∙ ap (λ (h : Halved). inLeaf v node (withKey v k node (before (h .after)))) is ∙ ap (inLeaf v node) (halved-leaf v s k (len - 1) node (t .on)) ∙ w)
+        (rw q)

@@ -1,18 +1,16 @@
--- What the descent from the root to a leaf gives.
+-- What the descent from the root to a leaf needs, and where it stops.
 -- Assumes nothing.
-use mathlib.Core.Path.{_≡_}
 use mathlib.Core.List.{List}
-use Prim.Native.Nat.{ℕ}
+use Prim.Native.Nat.{ℕ, _≤_}
 use Rattle.btree.specs.declared.Answer.the-variants.{Absent}
 use Rattle.btree.specs.declared.Lookup.{Lookup}
-use Rattle.btree.specs.Search.{pathOf, answerOf, pathOut}
-use Rattle.formats.specs.Format.{view}
+use Rattle.btree.specs.Tree.{View, SoundTree}
 
--- a descent that stops at this node, after the nodes stored
-abbrev pub stoppedAt : List ℕ → ℕ → ℕ → Lookup
-stoppedAt nodes len node = record { answer = Absent node; path = record { nodes = nodes; len = len } }
+-- a tree that can be searched by halving, as the check has shown it
+pub record Searchable (v : View) : Type 0 where
+  pub tree : SoundTree v
+  pub shallow : v .depth ≤ 8
 
--- what the descent gives
-pub record Descends (img : List ℕ) (k : ℕ) (r : Lookup) : Type 0 where
-  pub answer : r .answer ≡ answerOf (view img) k
-  pub path : r .path ≡ pathOut (pathOf (view img) k)
+-- a descent that stops at this node, after the nodes stored and the keys compared
+abbrev pub stoppedAt : List ℕ → ℕ → ℕ → ℕ → Lookup
+stoppedAt nodes len node compared = record { answer = Absent node; path = record { nodes = nodes; len = len }; compared = compared }

@@ -1,4 +1,3 @@
 pub mod Place
-pub mod Highest
 pub mod Descent
 pub mod Seen

@@ -1,61 +1,74 @@
 // The descent from the root to a leaf.
 ghost use mathlib.Core.Path.{_≡_};
-ghost use Prim.Native.Nat.{_≤_};
-ghost use Rattle.btree.specs.Search.{answerFrom};
+ghost use Rattle.btree.specs.Halving.{before};
+ghost use Rattle.btree.specs.Search.{inLeaf, withKey, searched};
 ghost use Rattle.formats.specs.Format.{view};
-ghost use Rattle.search.specs.Descent.{stoppedAt, Descends};
-use super::highest::highest_not_above;
-use super::place::Place;
-use super::place::record_with;
+ghost use Rattle.search.specs.Descent.{Searchable, stoppedAt};
+use super::halving::halve;
 use btree::Answer;
 use btree::Lookup;
 use btree::Path;
 use formats::records::child_of;
+use formats::records::key_of;
 use image::bytes::be16;
 use image::bytes::be32;
 
-fn absent(nodes: [u32; 8], len: u32, node: u32) -> Lookup
-    ensures { λ r. ⌜ r ≡ stoppedAt nodes len node ⌝ }
+fn absent(nodes: [u32; 8], len: u32, node: u32, compared: u32) -> Lookup
+    ensures { λ r. ⌜ r ≡ stoppedAt nodes len node compared ⌝ }
 {
     let answer = Answer::Absent(node);
     let path = Path { nodes, len };
-    Lookup { answer, path }
+    Lookup {
+        answer,
+        path,
+        compared,
+    }
 }
 
-// What a leaf says of the key.
-fn in_leaf(image: &[u8], k: u64, node: u32) -> Answer
-    ensures { λ r. ⌜ r ≡ answerFrom (view (now (image .entry))) 0 k node ⌝ }
+// What a leaf says of the key where halving ends after so many of its records: the last of them may have it.
+fn in_leaf(image: &[u8], k: u64, node: u32, after: u32) -> Answer
+    ensures { λ r. ⌜ r ≡ inLeaf (view (now (image .entry))) node (withKey (view (now (image .entry))) k node (before after)) ⌝ }
 {
-    let place = record_with(image, node, k);
-    match place {
-        Place::At(i) => Answer::Found(node, i),
-        Place::Nowhere => Answer::Absent(node),
+    if after == 0 {
+        return Answer::Absent(node);
     }
+    if key_of(image, node, after - 1) == k {
+        return Answer::Found(node, after - 1);
+    }
+    Answer::Absent(node)
 }
 
 // From the root down, in each index node by the highest pointer key not above k.
 pub fn descend(image: &[u8], k: u64) -> Lookup
-    requires { ⌜ view (now image) .depth ≤ 8 ⌝ }
-    ensures { λ r. ⌜ Descends (now (image .entry)) k r ⌝ }
+    requires { ⌜ Searchable (view (now image)) ⌝ }
+    ensures { λ r. ⌜ r ≡ searched (view (now (image .entry))) k ⌝ }
 {
     let depth = be16(image, 14);
     let mut nodes = [0u32; 8];
     if depth == 0 {
-        return absent(nodes, 0, 0);
+        return absent(nodes, 0, 0, 0);
     }
     let mut node = be32(image, 16);
     nodes[0] = node;
     let mut len: u32 = 1;
+    let mut compared: u32 = 0;
     while len < depth {
-        let place = highest_not_above(image, node, k);
-        let Place::At(i) = place else {
-            return absent(nodes, len, node);
-        };
-        node = child_of(image, node, i);
+        let halved = halve(image, node, k);
+        compared += halved.compared;
+        let after = halved.after;
+        if after == 0 {
+            return absent(nodes, len, node, compared);
+        }
+        node = child_of(image, node, after - 1);
         nodes[len as usize] = node;
         len += 1;
     }
-    let answer = in_leaf(image, k, node);
+    let halved = halve(image, node, k);
+    let answer = in_leaf(image, k, node, halved.after);
     let path = Path { nodes, len };
-    Lookup { answer, path }
+    Lookup {
+        answer,
+        path,
+        compared: compared + halved.compared,
+    }
 }

@@ -1,34 +1,37 @@
--- The images on the bench that are marked *, W-201's of two levels and W-205's of other pointer keys: an image, a question about it, and the answer by the
--- paper or the request.
+-- The images on the bench that are marked *, W-201's of two levels, W-202's halvings and W-205's of other pointer keys: an image, a question about it, and
+-- the answer by the paper or the request.
 -- Assumes nothing.
 use mathlib.Core.Path.{_≡_}
 use mathlib.Core.List.{List, [], _∷_}
-use Prim.Native.Nat.{ℕ}
+use Prim.Native.Nat.{ℕ, _+_, _*_}
 use lib.IntN.{ℤ, negsuc}
 use lib.ListN.{replicate, set}
 use Rattle.btree.specs.Walk.{fails}
 use Rattle.btree.specs.declared.Lookup.{Lookup}
 use Rattle.btree.specs.Numbers.{lookupReply}
+use Rattle.btree.specs.Halving.{halved}
 use Rattle.formats.specs.declared.key.Key.{Key}
 use Rattle.formats.specs.Key.{Lawful, packed, compared, asked}
 use Rattle.extents.specs.Reader.{verdict, lookedUp}
 use Rattle.vectors.specs.Build.{keyBytes, E1, L1, twoLeaves, twoLeavesUnder, threeLevelsUnder}
 
--- the numbers of a reply and of the search path beside it
+-- the numbers of a reply, the keys compared, and the search path beside it
 abbrev pub numbersOf : Lookup → List ℕ
-numbersOf r = lookupReply (r .answer) .number ∷ lookupReply (r .answer) .place ∷ lookupReply (r .answer) .entry ∷ r .path .len ∷ r .path .nodes
+numbersOf r = lookupReply (r .answer) .number ∷ lookupReply (r .answer) .place ∷ lookupReply (r .answer) .entry ∷ r .compared ∷ r .path .len ∷ r .path .nodes
 
 -- a question about an image, and what the paper says to it
 pub data Asks : Type 0 where
   -- the check: number and place
   check : ℕ → ℕ → Asks
-  -- a lookup of one key: number, place, record, length of the path, its eight places
+  -- a lookup of one key: number, place, record, keys compared, length of the path, its eight places
   look : Key → List ℕ → Asks
   -- a lookup of any key with a lawful fork byte
   lookAny : List ℕ → Asks
   -- a key's packed number, and how it compares with another; of no image
   packs : Key → ℕ → Asks
   compares : Key → Key → ℤ → Asks
+  -- halving among so many records, whose keys are 10, 20 and so on, for a key: after how many it ends, and how many it compared; of no image
+  halves : ℕ → ℕ → ℕ → ℕ → Asks
 
 pub record Case : Type 0 where
   pub image : List ℕ
@@ -40,6 +43,7 @@ Says img (look k numbers) = numbersOf (lookedUp img k) ≡ numbers
 Says img (lookAny numbers) = (file fork start : ℕ) → Lawful fork → numbersOf (lookedUp img (asked file fork start)) ≡ numbers
 Says img (packs k n) = packed k ≡ n
 Says img (compares a b z) = compared a b ≡ z
+Says img (halves count k after keys) = halved (λ i. i * 10 + 10) k count ≡ record { after = after; compared = keys }
 
 abbrev pub Right : Case → Type 0
 Right c = Says (c .image) (c .asks)
@@ -58,30 +62,35 @@ bench =
     of (replicate 511 0) (check 1 0) ∷
     -- "E1 ..: 0. Any good key: 12, place 0, road length 0."
     of E1 (check 0 0) ∷
-    of E1 (lookAny (12 ∷ 0 ∷ 0 ∷ 0 ∷ 0 ∷ 0 ∷ 0 ∷ 0 ∷ 0 ∷ 0 ∷ 0 ∷ 0 ∷ [])) ∷
+    of E1 (lookAny (12 ∷ 0 ∷ 0 ∷ 0 ∷ 0 ∷ 0 ∷ 0 ∷ 0 ∷ 0 ∷ 0 ∷ 0 ∷ 0 ∷ 0 ∷ [])) ∷
     -- "E1 with map byte 00: 9 place 0; with C0: 9 place 1. E1 with free 1: 10."
     of (set E1 248 0x00) (check 9 0) ∷
     of (set E1 248 0xC0) (check 9 1) ∷
     of (set E1 43 1) (check 10 0) ∷
     -- "L1 .. Sound. Key (16, 00, 5): found at node 1 record 0, road 1. Key (16, FF, 5): 12 place 1. Fork 01: 11."
     of L1 (check 0 0) ∷
-    of L1 (look (asked 16 0x00 5) (0 ∷ 1 ∷ 0 ∷ 1 ∷ 1 ∷ 0 ∷ 0 ∷ 0 ∷ 0 ∷ 0 ∷ 0 ∷ 0 ∷ [])) ∷
-    of L1 (look (asked 16 0xFF 5) (12 ∷ 1 ∷ 0 ∷ 1 ∷ 1 ∷ 0 ∷ 0 ∷ 0 ∷ 0 ∷ 0 ∷ 0 ∷ 0 ∷ [])) ∷
-    of L1 (look (asked 16 0x01 5) (11 ∷ 0 ∷ 0 ∷ 0 ∷ 0 ∷ 0 ∷ 0 ∷ 0 ∷ 0 ∷ 0 ∷ 0 ∷ 0 ∷ [])) ∷
+    of L1 (look (asked 16 0x00 5) (0 ∷ 1 ∷ 0 ∷ 1 ∷ 1 ∷ 1 ∷ 0 ∷ 0 ∷ 0 ∷ 0 ∷ 0 ∷ 0 ∷ 0 ∷ [])) ∷
+    of L1 (look (asked 16 0xFF 5) (12 ∷ 1 ∷ 0 ∷ 1 ∷ 1 ∷ 1 ∷ 0 ∷ 0 ∷ 0 ∷ 0 ∷ 0 ∷ 0 ∷ 0 ∷ [])) ∷
+    of L1 (look (asked 16 0x01 5) (11 ∷ 0 ∷ 0 ∷ 0 ∷ 0 ∷ 0 ∷ 0 ∷ 0 ∷ 0 ∷ 0 ∷ 0 ∷ 0 ∷ 0 ∷ [])) ∷
     -- "L1 with node 1's back link 1: 7 place 1."
     of (set L1 519 1) (check 7 1) ∷
     -- W-201: "the root's level is the depth, each child's is one less than its parent's, and leaves are exactly the nodes of level 1": sound
     of (twoLeaves 2 1 1) (check 0 0) ∷
     -- a key found through the root, and a key below every pointer
-    of (twoLeaves 2 1 1) (look (asked 17 0x00 0) (0 ∷ 3 ∷ 1 ∷ 2 ∷ 1 ∷ 3 ∷ 0 ∷ 0 ∷ 0 ∷ 0 ∷ 0 ∷ 0 ∷ [])) ∷
-    of (twoLeaves 2 1 1) (look (asked 16 0x00 4) (12 ∷ 1 ∷ 0 ∷ 1 ∷ 1 ∷ 0 ∷ 0 ∷ 0 ∷ 0 ∷ 0 ∷ 0 ∷ 0 ∷ [])) ∷
+    of (twoLeaves 2 1 1) (look (asked 17 0x00 0) (0 ∷ 3 ∷ 1 ∷ 2 ∷ 2 ∷ 1 ∷ 3 ∷ 0 ∷ 0 ∷ 0 ∷ 0 ∷ 0 ∷ 0 ∷ [])) ∷
+    of (twoLeaves 2 1 1) (look (asked 16 0x00 4) (12 ∷ 1 ∷ 0 ∷ 2 ∷ 1 ∷ 1 ∷ 0 ∷ 0 ∷ 0 ∷ 0 ∷ 0 ∷ 0 ∷ 0 ∷ [])) ∷
+    -- W-202: "it compares the middle one of those left (of two, the later), and goes on after it if its key is not above the asked one, else before it":
+    -- two keys of the root and one of leaf 2; one of the root, which is the asked one, and two of leaf 3; two of the root and one of leaf 2, where none is found
+    of (twoLeaves 2 1 1) (look (asked 16 0x00 5) (0 ∷ 2 ∷ 0 ∷ 3 ∷ 2 ∷ 1 ∷ 2 ∷ 0 ∷ 0 ∷ 0 ∷ 0 ∷ 0 ∷ 0 ∷ [])) ∷
+    of (twoLeaves 2 1 1) (look (asked 16 0xFF 0) (0 ∷ 3 ∷ 0 ∷ 3 ∷ 2 ∷ 1 ∷ 3 ∷ 0 ∷ 0 ∷ 0 ∷ 0 ∷ 0 ∷ 0 ∷ [])) ∷
+    of (twoLeaves 2 1 1) (look (asked 16 0x00 9) (12 ∷ 2 ∷ 0 ∷ 3 ∷ 2 ∷ 1 ∷ 2 ∷ 0 ∷ 0 ∷ 0 ∷ 0 ∷ 0 ∷ 0 ∷ [])) ∷
     -- levels counted from the root; leaves of level 0; one leaf of level 2
     of (twoLeaves 1 2 2) (check 5 1) ∷
     of (twoLeaves 2 0 0) (check 5 2) ∷
     of (twoLeaves 2 1 2) (check 5 3) ∷
     -- W-205: "a pointer key equals the first key of its child, else 6 with the child as the place": below it, which all other rules allow, and so refused
     of (twoLeavesUnder (keyBytes 0x10 0x00 5) (keyBytes 0x10 0x00 6)) (check 6 3) ∷
-    of (twoLeavesUnder (keyBytes 0x10 0x00 5) (keyBytes 0x10 0x00 6)) (look (asked 16 0xFF 0) (6 ∷ 3 ∷ 0 ∷ 0 ∷ 0 ∷ 0 ∷ 0 ∷ 0 ∷ 0 ∷ 0 ∷ 0 ∷ 0 ∷ [])) ∷
+    of (twoLeavesUnder (keyBytes 0x10 0x00 5) (keyBytes 0x10 0x00 6)) (look (asked 16 0xFF 0) (6 ∷ 3 ∷ 0 ∷ 0 ∷ 0 ∷ 0 ∷ 0 ∷ 0 ∷ 0 ∷ 0 ∷ 0 ∷ 0 ∷ 0 ∷ [])) ∷
     of (twoLeavesUnder (keyBytes 0x10 0x00 4) (keyBytes 0x10 0xFF 0)) (check 6 2) ∷
     -- at the child's last key
     of (twoLeavesUnder (keyBytes 0x10 0x00 5) (keyBytes 0x11 0x00 0)) (check 6 3) ∷
@@ -94,4 +103,14 @@ bench =
     of [] (packs (asked 16 0x00 9) 268435465) ∷
     of [] (packs (asked 16 0xFF 0) 285147136) ∷
     of [] (packs (asked 17 0x00 0) 285212672) ∷
+    -- W-202: of none; of two for a key above both and one between them; past an equal key, "until none is left"
+    of [] (halves 0 10 0 0) ∷
+    of [] (halves 2 25 2 1) ∷
+    of [] (halves 2 15 1 2) ∷
+    of [] (halves 3 20 2 2) ∷
+    -- "at most six in a 512-byte node": of a leaf's 22 and of an index node's 35, for a key below all and for one above all
+    of [] (halves 22 5 0 5) ∷
+    of [] (halves 22 999 22 4) ∷
+    of [] (halves 35 5 0 6) ∷
+    of [] (halves 35 999 35 5) ∷
     []

@@ -16,8 +16,9 @@ pub fn lookup(image: &[u8], key: Key) -> Lookup {
         reference::Answer::Absent { node } => Answer::Absent { node },
         reference::Answer::Refused { number, place } => Answer::Refused { number, place },
     };
+    let reference::Lookup { compared, path, .. } = said;
     let path_len = said.path_len as u32;
-    Lookup { answer, path: said.path, path_len, data: data(image, said.data) }
+    Lookup { answer, compared, path, path_len, data: data(image, said.data) }
 }
 
 pub fn salvage(image: &[u8], key: Key) -> Salvage {

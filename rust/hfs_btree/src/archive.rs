@@ -8,7 +8,7 @@ extern "C" {
         file: u32,
         fork: u8,
         start: u16,
-        out: *mut [u32; 12],
+        out: *mut [u32; 13],
         data: *mut [u8; 12],
     );
     fn hfs_salvage(
@@ -33,8 +33,8 @@ pub fn check(image: &[u8]) -> [u32; 2] {
     out
 }
 
-pub fn lookup(image: &[u8], file: u32, fork: u8, start: u16) -> ([u32; 12], [u8; 12]) {
-    let mut out = [UNWRITTEN; 12];
+pub fn lookup(image: &[u8], file: u32, fork: u8, start: u16) -> ([u32; 13], [u8; 12]) {
+    let mut out = [UNWRITTEN; 13];
     let mut data = [UNWRITTEN_BYTE; 12];
     let (bytes, len) = (image.as_ptr(), image.len());
     // SAFETY: the image is a live slice and only read, and `out` and `data` are arrays of their own.

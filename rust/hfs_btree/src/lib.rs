@@ -23,6 +23,8 @@ pub enum Answer {
 #[derive(Clone, Copy, Debug, PartialEq, Eq)]
 pub struct Lookup {
     pub answer: Answer,
+    /// How many keys were compared by halving, in all nodes of the path; 0 if refused.
+    pub compared: u32,
     /// Nodes read from the root down; unused places are 0.
     pub path: [u32; 8],
     pub path_len: u32,
@@ -60,13 +62,13 @@ pub fn check(image: &[u8]) -> Verdict {
 /// What stands under a key of a sound image?
 pub fn lookup(image: &[u8], file: u32, fork: u8, start: u16) -> Lookup {
     let (out, data) = archive::lookup(image, file, fork, start);
-    let [number, place, record, path_len, path @ ..] = out;
+    let [number, place, record, compared, path_len, path @ ..] = out;
     let answer = match number {
         FOUND => Answer::Found { node: place, record },
         ABSENT => Answer::Absent { node: place },
         _ => Answer::Refused { number, place },
     };
-    Lookup { answer, path, path_len, data }
+    Lookup { answer, compared, path, path_len, data }
 }
 
 /// What can be seen under a key, in an image of any state? Seen proves nothing: a freed node may

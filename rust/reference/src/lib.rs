@@ -3,6 +3,7 @@
 //! It answers whether the image is sound, what stands under a key, and what can be salvaged.
 
 mod check;
+mod halving;
 mod header;
 mod key;
 mod leaves;

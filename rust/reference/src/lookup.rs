@@ -1,9 +1,10 @@
 //! What stands under a key of a sound image.
 
 use crate::check::{open, SoundImage};
+use crate::halving::halve;
 use crate::key::{is_lawful_fork, Key};
-use crate::node::range_in_image;
-use crate::record::{child, find_in_leaf, leaf_data, packed_key, Index};
+use crate::node::{range_in_image, Node};
+use crate::record::{child, leaf_data, packed_key, Index, Leaf};
 use crate::verdict::{Verdict, ASKED_FORK};
 use std::ops::Range;
 
@@ -19,6 +20,8 @@ pub enum Answer {
 #[derive(Clone, Debug, PartialEq, Eq)]
 pub struct Lookup {
     pub answer: Answer,
+    /// How many keys were compared by halving, in all nodes of the path.
+    pub compared: u32,
     /// Nodes read from the root down; unused places are 0.
     pub path: [u32; 8],
     pub path_len: usize,
@@ -39,12 +42,15 @@ pub fn lookup(image: &[u8], file: u32, fork: u8, start: u16) -> Lookup {
 
 fn refused(fault: Verdict) -> Lookup {
     let Verdict { number, place } = fault;
-    Lookup { answer: Answer::Refused { number, place }, path: [0; 8], path_len: 0, data: None }
+    without_path(Answer::Refused { number, place })
+}
+
+fn without_path(answer: Answer) -> Lookup {
+    Lookup { answer, compared: 0, path: [0; 8], path_len: 0, data: None }
 }
 
 fn descend(sound: &SoundImage, asked: u64) -> Lookup {
-    let mut lookup =
-        Lookup { answer: Answer::Absent { node: 0 }, path: [0; 8], path_len: 0, data: None };
+    let mut lookup = without_path(Answer::Absent { node: 0 });
     let mut number = sound.header.root;
     while lookup.path_len < sound.header.depth {
         let node = &sound.nodes[number as usize];
@@ -52,22 +58,28 @@ fn descend(sound: &SoundImage, asked: u64) -> Lookup {
         lookup.path_len += 1;
         lookup.answer = Answer::Absent { node: number };
         if lookup.path_len == sound.header.depth {
-            if let Some(record) = find_in_leaf(node, asked) {
-                lookup.answer = found(number, record);
-                lookup.data = Some(range_in_image(number as usize, leaf_data(record)));
-            }
+            search_leaf(&mut lookup, number, node, asked);
             break;
         }
         let pointers = Index::records(node);
-        match pointers.partition_point(|pointer| packed_key(pointer) <= asked) {
-            0 => break,
-            not_above => number = child(&pointers[not_above - 1]),
+        let halving = halve(pointers, asked);
+        lookup.compared += halving.compared;
+        match halving.reached {
+            None => break,
+            Some(record) => number = child(&pointers[record]),
         }
     }
     lookup
 }
 
-fn found(node: u32, record: usize) -> Answer {
-    let record = record as u32;
-    Answer::Found { node, record }
+fn search_leaf(lookup: &mut Lookup, number: u32, node: &Node, asked: u64) {
+    let records = Leaf::records(node);
+    let halving = halve(records, asked);
+    lookup.compared += halving.compared;
+    // Halving only knows that the key is not above the asked one.
+    let has_key = |&record: &usize| packed_key(&records[record]) == asked;
+    if let Some(record) = halving.reached.filter(has_key) {
+        lookup.answer = Answer::Found { node: number, record: record as u32 };
+        lookup.data = Some(range_in_image(number as usize, leaf_data(record)));
+    }
 }

@@ -1,5 +1,5 @@
 //! Every image of the paper's section "Images on the bench", and one of two levels, with the paper's
-//! answer.
+//! answer; how many keys a lookup compares is worked out by hand.
 
 use images::bench::*;
 use reference::{check, lookup, Answer, Key, Lookup, Verdict};
@@ -9,7 +9,8 @@ fn verdict(number: u32, place: u32) -> Verdict {
 }
 
 fn refused(number: u32, place: u32) -> Lookup {
-    Lookup { answer: Answer::Refused { number, place }, path: [0; 8], path_len: 0, data: None }
+    let answer = Answer::Refused { number, place };
+    Lookup { answer, compared: 0, path: [0; 8], path_len: 0, data: None }
 }
 
 fn word(image: &[u8], at: usize) -> u16 {
@@ -27,8 +28,8 @@ fn lengths() {
 #[test]
 fn e1_is_sound_and_empty() {
     assert_eq!(check(&e1()), verdict(0, 0));
-    let absent =
-        Lookup { answer: Answer::Absent { node: 0 }, path: [0; 8], path_len: 0, data: None };
+    let answer = Answer::Absent { node: 0 };
+    let absent = Lookup { answer, compared: 0, path: [0; 8], path_len: 0, data: None };
     let keys = [(0, 0x00, 0), (16, 0x00, 5), (16, 0xFF, 5), (u32::MAX, 0xFF, u16::MAX)];
     for (file, fork, start) in keys {
         assert_eq!(lookup(&e1(), file, fork, start), absent);
@@ -68,14 +69,17 @@ fn l1_lookups() {
     assert_eq!(check(&image), verdict(0, 0));
     let found = Lookup {
         answer: Answer::Found { node: 1, record: 0 },
+        compared: 1,
         path,
         path_len: 1,
         // The data follow the 14 bytes of node 1 and the 8 of the key.
         data: Some(534..546),
     };
     assert_eq!(lookup(&image, 16, 0x00, 5), found);
-    let absent = Lookup { answer: Answer::Absent { node: 1 }, path, path_len: 1, data: None };
+    let answer = Answer::Absent { node: 1 };
+    let absent = Lookup { answer, compared: 1, path, path_len: 1, data: None };
     assert_eq!(lookup(&image, 16, 0xFF, 5), absent);
+    assert_eq!(lookup(&image, 16, 0x00, 4), absent);
     assert_eq!(lookup(&image, 16, 0x01, 5), refused(11, 0));
 }
 
@@ -128,19 +132,27 @@ fn two_leaves_bytes() {
 fn two_leaves_lookups() {
     let image = two_leaves();
     assert_eq!(check(&image), verdict(0, 0));
-    let says = |answer, path: [u32; 2], path_len, data| {
+    let says = |answer, compared, path: [u32; 2], path_len, data| {
         let path = [path[0], path[1], 0, 0, 0, 0, 0, 0];
-        Lookup { answer, path, path_len, data }
+        Lookup { answer, compared, path, path_len, data }
     };
     // Past three nodes, the 14 bytes of node 3, its first record and the key of the second.
-    let last = says(Answer::Found { node: 3, record: 1 }, [1, 3], 2, Some(1578..1590));
+    let last = says(Answer::Found { node: 3, record: 1 }, 1 + 1, [1, 3], 2, Some(1578..1590));
     assert_eq!(lookup(&image, 17, 0x00, 0), last);
-    let first = says(Answer::Found { node: 2, record: 0 }, [1, 2], 2, Some(1046..1058));
+    // The second key of leaf 3 is above, so the first is compared as well.
+    let middle = says(Answer::Found { node: 3, record: 0 }, 1 + 2, [1, 3], 2, Some(1558..1570));
+    assert_eq!(lookup(&image, 16, 0xFF, 0), middle);
+    // The second pointer is above, so the first is compared as well.
+    let first = says(Answer::Found { node: 2, record: 0 }, 2 + 1, [1, 2], 2, Some(1046..1058));
     assert_eq!(lookup(&image, 16, 0x00, 5), first);
-    let below_every_pointer = says(Answer::Absent { node: 1 }, [1, 0], 1, None);
+    let below_every_pointer = says(Answer::Absent { node: 1 }, 2, [1, 0], 1, None);
     assert_eq!(lookup(&image, 16, 0x00, 4), below_every_pointer);
-    let between = says(Answer::Absent { node: 2 }, [1, 2], 2, None);
+    let between = says(Answer::Absent { node: 2 }, 2 + 1, [1, 2], 2, None);
     assert_eq!(lookup(&image, 16, 0x00, 9), between);
+    let within_leaf_3 = says(Answer::Absent { node: 3 }, 1 + 2, [1, 3], 2, None);
+    assert_eq!(lookup(&image, 16, 0xFF, 1), within_leaf_3);
+    let above_all = says(Answer::Absent { node: 3 }, 1 + 1, [1, 3], 2, None);
+    assert_eq!(lookup(&image, 17, 0x00, 1), above_all);
 }
 
 #[test]
@@ -225,6 +237,89 @@ fn most_index_records() {
     assert_eq!(word(&full, 1024 - 2 - 2 * 35), 0x01B2);
     assert_eq!(check(&full), verdict(0, 0));
     assert_eq!(check(&index_with(36)), verdict(5, 1));
+}
+
+/// Asks for the file's key and for one between it and the next, which halve alike.
+#[track_caller]
+fn compares(image: &[u8], file: u32, compared: usize) {
+    for start in [0, 1] {
+        let got = lookup(image, file, 0x00, start).compared;
+        assert_eq!(got as usize, compared, "file {file} start {start}");
+    }
+}
+
+#[test]
+fn halving_in_a_full_leaf() {
+    let image = leaf_with(22);
+    // Each asked file with those whose keys are compared; at most 22, 11, 5, 2, 1 are left.
+    let by_hand: [(u32, &[u32]); 11] = [
+        (0, &[12, 6, 3, 2, 1]),
+        (1, &[12, 6, 3, 2, 1]),
+        (2, &[12, 6, 3, 2]),
+        (5, &[12, 6, 3, 5]),
+        (6, &[12, 6, 9, 8, 7]),
+        (10, &[12, 6, 9, 11, 10]),
+        (11, &[12, 6, 9, 11]),
+        (12, &[12, 18, 15, 14, 13]),
+        (18, &[12, 18, 21, 20, 19]),
+        (22, &[12, 18, 21, 22]),
+        (23, &[12, 18, 21, 22]),
+    ];
+    for (file, compared) in by_hand {
+        compares(&image, file, compared.len());
+    }
+}
+
+#[test]
+fn halving_in_a_full_index_node() {
+    let image = index_with(35);
+    // Each asked file with those whose pointers are compared; at most 35, 17, 8, 4, 2, 1 are left.
+    let by_hand: [(u32, &[u32]); 9] = [
+        (1, &[18, 9, 5, 3, 2, 1]),
+        (2, &[18, 9, 5, 3, 2]),
+        (3, &[18, 9, 5, 3, 4]),
+        (9, &[18, 9, 14, 12, 11, 10]),
+        (17, &[18, 9, 14, 16, 17]),
+        (18, &[18, 27, 23, 21, 20, 19]),
+        (27, &[18, 27, 32, 30, 29, 28]),
+        (35, &[18, 27, 32, 34, 35]),
+        (36, &[18, 27, 32, 34, 35]),
+    ];
+    for (file, compared) in by_hand {
+        // The leaf adds its only key.
+        compares(&image, file, compared.len() + 1);
+    }
+    // No pointer is low enough, so that no leaf is read.
+    compares(&image, 0, [18, 9, 5, 3, 2, 1].len());
+}
+
+#[track_caller]
+fn assert_few(compared: u32, records: usize) {
+    assert!((1..=6).contains(&compared), "{compared} of {records}");
+    assert!(1 << (compared - 1) <= records, "{compared} of {records}");
+}
+
+#[test]
+fn at_most_six_keys_of_a_leaf_are_compared() {
+    for count in 1..=22 {
+        let image = leaf_with(count);
+        for file in 0..=count as u32 + 1 {
+            assert_few(lookup(&image, file, 0x00, 0).compared, count);
+        }
+    }
+}
+
+#[test]
+fn at_most_six_keys_of_an_index_node_are_compared() {
+    for count in 1..=35 {
+        let image = index_with(count);
+        for file in 0..=count as u32 + 1 {
+            let got = lookup(&image, file, 0x00, 0);
+            // A leaf below the root has one record, and so adds one key.
+            let in_leaf = got.path_len as u32 - 1;
+            assert_few(got.compared - in_leaf, count);
+        }
+    }
 }
 
 #[test]

@@ -337,9 +337,10 @@ fn lowest_wrong_bit() {
 }
 
 #[track_caller]
-fn looks_up(file: u32, answer: Answer, path: &[u32]) {
+fn looks_up(file: u32, answer: Answer, path: &[u32], compared: u32) {
     let found = lookup(&three_levels_by_hand(), file, 0x00, 0);
     assert_eq!(found.answer, answer);
+    assert_eq!(found.compared, compared);
     assert_eq!(&found.path[..found.path_len], path);
     assert!(found.path[found.path_len..].iter().all(|&unused| unused == 0));
     let data = match answer {
@@ -354,20 +355,21 @@ fn looks_up(file: u32, answer: Answer, path: &[u32]) {
 
 #[test]
 fn lookups_and_their_paths() {
-    looks_up(10, Answer::Found { node: 4, record: 0 }, &[1, 2, 4]);
-    looks_up(40, Answer::Found { node: 5, record: 1 }, &[1, 2, 5]);
-    looks_up(50, Answer::Found { node: 6, record: 0 }, &[1, 3, 6]);
-    looks_up(80, Answer::Found { node: 7, record: 1 }, &[1, 3, 7]);
+    // Of the two keys in each node the second is compared, and the first only if that is above.
+    looks_up(10, Answer::Found { node: 4, record: 0 }, &[1, 2, 4], 2 + 2 + 2);
+    looks_up(40, Answer::Found { node: 5, record: 1 }, &[1, 2, 5], 2 + 1 + 1);
+    looks_up(50, Answer::Found { node: 6, record: 0 }, &[1, 3, 6], 1 + 2 + 2);
+    looks_up(80, Answer::Found { node: 7, record: 1 }, &[1, 3, 7], 1 + 1 + 1);
     // No pointer of the root is low enough.
-    looks_up(9, Answer::Absent { node: 1 }, &[1]);
+    looks_up(9, Answer::Absent { node: 1 }, &[1], 2);
     // An equal pointer key is not the record itself.
-    looks_up(30, Answer::Found { node: 5, record: 0 }, &[1, 2, 5]);
-    looks_up(70, Answer::Found { node: 7, record: 0 }, &[1, 3, 7]);
+    looks_up(30, Answer::Found { node: 5, record: 0 }, &[1, 2, 5], 2 + 1 + 2);
+    looks_up(70, Answer::Found { node: 7, record: 0 }, &[1, 3, 7], 1 + 1 + 2);
     // Between two leaves, the left one is the last node read.
-    looks_up(24, Answer::Absent { node: 4 }, &[1, 2, 4]);
-    looks_up(25, Answer::Absent { node: 4 }, &[1, 2, 4]);
-    looks_up(29, Answer::Absent { node: 4 }, &[1, 2, 4]);
-    looks_up(45, Answer::Absent { node: 5 }, &[1, 2, 5]);
-    looks_up(49, Answer::Absent { node: 5 }, &[1, 2, 5]);
-    looks_up(90, Answer::Absent { node: 7 }, &[1, 3, 7]);
+    looks_up(24, Answer::Absent { node: 4 }, &[1, 2, 4], 2 + 2 + 1);
+    looks_up(25, Answer::Absent { node: 4 }, &[1, 2, 4], 2 + 2 + 1);
+    looks_up(29, Answer::Absent { node: 4 }, &[1, 2, 4], 2 + 2 + 1);
+    looks_up(45, Answer::Absent { node: 5 }, &[1, 2, 5], 2 + 1 + 1);
+    looks_up(49, Answer::Absent { node: 5 }, &[1, 2, 5], 2 + 1 + 1);
+    looks_up(90, Answer::Absent { node: 7 }, &[1, 3, 7], 1 + 1 + 1);
 }

@@ -1,6 +1,6 @@
 //! Lookups of every key and of gaps, against a linear search of the leaf list.
 
-use images::{build, samples, Built, Key, Plan, Record, Rng};
+use images::{bench, build, samples, Built, Key, Plan, Record, Rng};
 use reference::{leaf_records, lookup, Answer, LeafRecord, Lookup};
 
 fn long(image: &[u8], at: usize) -> u32 {
@@ -15,6 +15,16 @@ fn key_at(image: &[u8], at: usize) -> Key {
     Key::new(long(image, at + 2), image[at + 1], word(image, at + 6) as u16)
 }
 
+fn record_at(image: &[u8], node: usize, record: usize) -> usize {
+    node + word(image, node + 510 - 2 * record) as usize
+}
+
+fn keys_of(image: &[u8], number: u32) -> Vec<Key> {
+    let node = number as usize * 512;
+    let records = 0..word(image, node + 10) as usize;
+    records.map(|record| key_at(image, record_at(image, node, record))).collect()
+}
+
 /// The search path by the paper's words, one record after the other.
 fn path_by_scan(image: &[u8], asked: Key) -> Vec<u32> {
     let mut path = Vec::new();
@@ -27,13 +37,34 @@ fn path_by_scan(image: &[u8], asked: Key) -> Vec<u32> {
             break;
         }
         for record in 0..word(image, node + 10) as usize {
-            let at = node + word(image, node + 510 - 2 * record) as usize;
+            let at = record_at(image, node, record);
             if key_at(image, at) <= asked {
                 next = Some(long(image, at + 8));
             }
         }
     }
     path
+}
+
+/// Takes away both ends until one is left, or two, of which the later counts.
+fn middle_of(left: &[Key]) -> Option<Key> {
+    match left {
+        [] => None,
+        [middle] | [_, middle] => Some(*middle),
+        [_, inner @ .., _] => middle_of(inner),
+    }
+}
+
+/// How many keys of a node are compared until none is left, striking out those ruled out.
+fn compared_by_striking_out(image: &[u8], number: u32, asked: Key) -> u32 {
+    let mut left = keys_of(image, number);
+    let mut compared = 0;
+    while let Some(middle) = middle_of(&left) {
+        compared += 1;
+        let goes_on_after = middle <= asked;
+        left.retain(|&key| if goes_on_after { key > middle } else { key < middle });
+    }
+    compared
 }
 
 fn expected(image: &[u8], list: &[LeafRecord], asked: Key) -> Lookup {
@@ -53,7 +84,8 @@ fn expected(image: &[u8], list: &[LeafRecord], asked: Key) -> Lookup {
         let start = found.node as usize * 512 + 14 + found.record as usize * 20 + 8;
         start..start + 12
     });
-    Lookup { answer, path, path_len: scanned.len(), data }
+    let compared = scanned.iter().map(|&node| compared_by_striking_out(image, node, asked)).sum();
+    Lookup { answer, compared, path, path_len: scanned.len(), data }
 }
 
 fn assert_right(image: &[u8], list: &[LeafRecord], asked: Key) {
@@ -63,6 +95,19 @@ fn assert_right(image: &[u8], list: &[LeafRecord], asked: Key) {
         let listed = list.iter().find(|listed| (listed.node, listed.record) == (node, record));
         assert_eq!(listed.map(|listed| &listed.data[..]), Some(&image[data]));
     }
+}
+
+fn assert_few_compared(image: &[u8], asked: Key) {
+    let got = lookup(image, asked.file, asked.fork, asked.start);
+    let path = &got.path[..got.path_len];
+    assert!(got.compared <= 6 * path.len() as u32, "{asked:?}");
+    let mut compared_in_all = 0;
+    for &number in path {
+        let compared = compared_by_striking_out(image, number, asked);
+        assert!(1 << (compared - 1) <= keys_of(image, number).len(), "{asked:?} in {number}");
+        compared_in_all += compared;
+    }
+    assert_eq!(got.compared, compared_in_all, "{asked:?}");
 }
 
 /// Every leaf key, pointer keys among them, its lawful neighbours and the ends of the range.
@@ -75,6 +120,23 @@ fn keys_worth_asking(built: &Built) -> Vec<Key> {
     asked.sort_unstable();
     asked.dedup();
     asked
+}
+
+fn small_samples() -> [Built; 3] {
+    [samples::two_level(), samples::three_level(), samples::longest_listed()]
+}
+
+#[test]
+fn every_key_and_gap_of_nodes_of_every_size() {
+    let leaves = (1..=22).map(|count| (count, bench::leaf_with(count)));
+    let indexes = (1..=35).map(|count| (count, bench::index_with(count)));
+    for (count, image) in leaves.chain(indexes) {
+        let list = leaf_records(&image);
+        for file in 0..=count as u32 + 1 {
+            assert_right(&image, &list, Key::new(file, 0x00, 0));
+            assert_right(&image, &list, Key::new(file, 0x00, 1));
+        }
+    }
 }
 
 #[test]
@@ -92,10 +154,19 @@ fn every_key_and_gap_of_random_trees() {
 
 #[test]
 fn every_key_and_gap_of_the_samples() {
-    for built in [samples::two_level(), samples::three_level(), samples::longest_listed()] {
+    for built in small_samples() {
         let list = leaf_records(&built.image);
         for asked in keys_worth_asking(&built) {
             assert_right(&built.image, &list, asked);
+        }
+    }
+}
+
+#[test]
+fn few_keys_of_the_samples_are_compared() {
+    for built in small_samples() {
+        for asked in keys_worth_asking(&built) {
+            assert_few_compared(&built.image, asked);
         }
     }
 }
@@ -107,18 +178,20 @@ fn some_keys_of_the_largest() {
     let keys = keys_worth_asking(&built);
     let mut rng = Rng::new(12);
     for _ in 0..500 {
-        assert_right(&built.image, &list, keys[rng.index(keys.len())]);
+        let asked = keys[rng.index(keys.len())];
+        assert_right(&built.image, &list, asked);
+        assert_few_compared(&built.image, asked);
     }
 }
 
 #[test]
 fn unlawful_forks_are_refused_before_anything_else() {
     let built = samples::two_level();
+    let answer = Answer::Refused { number: 11, place: 0 };
+    let refused = Lookup { answer, compared: 0, path: [0; 8], path_len: 0, data: None };
     for fork in 0x01..=0xFE {
         for image in [&built.image[..], &[]] {
-            let got = lookup(image, 1, fork, 0);
-            let refused = Answer::Refused { number: 11, place: 0 };
-            assert_eq!((got.answer, got.path, got.path_len, got.data), (refused, [0; 8], 0, None));
+            assert_eq!(lookup(image, 1, fork, 0), refused);
         }
     }
 }

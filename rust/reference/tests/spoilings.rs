@@ -70,8 +70,8 @@ fn assert_refused(built: &Built, spoiling: &Spoiling) {
     let mut image = built.image.clone();
     spoiling.apply(&mut image);
     assert_eq!(check(&image), Verdict { number, place }, "{name}");
-    let refused =
-        Lookup { answer: Answer::Refused { number, place }, path: [0; 8], path_len: 0, data: None };
+    let answer = Answer::Refused { number, place };
+    let refused = Lookup { answer, compared: 0, path: [0; 8], path_len: 0, data: None };
     assert_eq!(lookup(&image, 16, 0x00, 5), refused, "{name}");
 }
 

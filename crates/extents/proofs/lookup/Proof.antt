@@ -1,6 +1,6 @@
 -- `lookup` meets its contract. Assumes nothing.
-use Rattle.btree.specs.Search.{refused}
-use Rattle.extents.proofs.Demands.{lookup-unlawful, lookup-refused, descended, answered}
+use Rattle.btree.specs.Search.{refused, searched}
+use Rattle.extents.proofs.Demands.{lookup-unlawful, lookup-refused, lookup-answers, answered}
 use native.Mathlib.Omega.{arith}
 use mathlib.Core.Path.{sym, ap, _∙_}
 use borrow.Author.Tests.{not-true, not-false}
@@ -8,6 +8,7 @@ use Rattle.btree.proofs.Decisions.{said, unsaid}
 use Rattle.btree.specs.Header.{viewOf}
 use Rattle.btree.specs.declared.Verdict.{Verdict}
 use Rattle.formats.specs.Key.{asked, Lawful, decLawful}
+use Rattle.formats.specs.Format.{view}
 use Rattle.formats.proofs.Order.{InRange, Bytes}
 use borrow.Author.Needs.{needs}
 use Rattle.extents.proofs.lookup.Statement.{statement}
@@ -55,7 +56,7 @@ pack-requires c κs = search needs
 
 descend-requires : tie.Need-descend-requires
 unfolding viewOf
-descend-requires c κs = c .before .before .before .check .ensures .1 .0 (c .before .if2 .left) .header .depthInRange
+descend-requires c κs = let s = c .before .before .before .check .ensures .1 .0 (c .before .if2 .left) in record { tree = s .tree; shallow = s .header .depthInRange }
 
 returns-3 : tie.Need-returns-3
 returns-3 c = let n = c .before .before in
@@ -64,8 +65,8 @@ returns-3 c = let n = c .before .before in
     let s = w .before .before in
     let b = bytes (w .before) in
     answered (s .args .image .now) b _ (asked-inRange s) _
-    (descended _ b _ (asked-inRange s) _ (lawful (t .before)) (sym (ap (λ (x : Verdict). x .number) (t .check .ensures .0)) ∙ n .if2 .left)
-    (rw (← c .before .pack .ensures .0) (c .descend .ensures)))
+    (c .descend .ensures ∙ ap (searched (view (s .args .image .now))) (c .before .pack .ensures .0)
+    ∙ sym (lookup-answers _ b _ (asked-inRange s) (lawful (t .before)) (sym (ap (λ (x : Verdict). x .number) (t .check .ensures .0)) ∙ n .if2 .left)))
 
 pub lookup-spec : {M : Type 1} → statement M
 lookup-spec =

@@ -1,12 +1,20 @@
-//! Times the proved reader and the reference on the largest sound image; nothing is asserted.
+//! Times the proved reader and the reference on the largest sound image and in one full leaf; nothing
+//! is asserted.
 
-use images::{samples, Key};
+use images::node::MOST_LEAF_RECORDS;
+use images::{bench, samples, Key};
 use std::hint::black_box;
 use std::time::Instant;
 
 const RUNS: usize = 21;
+const CALLS: usize = 10_000;
 
 fn main() {
+    largest();
+    one_leaf();
+}
+
+fn largest() {
     let built = samples::largest();
     let (nodes, records) = (built.total(), built.records.len());
     println!("{nodes} nodes, {records} records, median of {RUNS}");
@@ -28,6 +36,30 @@ fn main() {
         || hfs_btree::salvage(image(), file, fork, start),
         || reference::salvage(image(), file, fork, start),
     );
+}
+
+/// A lookup checks the image first; where that takes least, the search after it shows most.
+fn one_leaf() {
+    println!("one leaf of {MOST_LEAF_RECORDS} records, {CALLS} calls, median of {RUNS}");
+    let leaf = bench::leaf_with(MOST_LEAF_RECORDS);
+    let image = || black_box(leaf.as_slice());
+
+    report("check", calls(|_| hfs_btree::check(image())), calls(|_| reference::check(image())));
+    report(
+        "lookup",
+        calls(|file| hfs_btree::lookup(image(), file, 0x00, 0)),
+        calls(|file| reference::lookup(image(), file, 0x00, 0)),
+    );
+}
+
+/// As many calls, with the files of the leaf and one on either side of them in turn.
+fn calls<T>(call: impl Fn(u32) -> T) -> impl Fn() {
+    move || {
+        for turn in 0..CALLS {
+            let file = turn % (MOST_LEAF_RECORDS + 2);
+            black_box(call(black_box(file as u32)));
+        }
+    }
 }
 
 /// Takes turns, so that a change in the machine's speed hits both alike.

@@ -17,7 +17,7 @@ pub struct Family {
 }
 
 /// Every kind, those that take longest first.
-pub const FAMILIES: [Family; 11] = [
+pub const FAMILIES: [Family; 12] = [
     Family { name: "every_byte_every_value", run: single_bytes::every_value },
     Family { name: "largest", run: large::largest },
     Family { name: "large_spoiled", run: large::spoiled },
@@ -26,6 +26,7 @@ pub const FAMILIES: [Family; 11] = [
     Family { name: "spoiled_by_the_table", run: spoiled::by_the_table },
     Family { name: "spoiled_at_random", run: spoiled::at_random },
     Family { name: "deep", run: sound::deep },
+    Family { name: "every_size", run: sound::every_size },
     Family { name: "lengths", run: lengths::lengths },
     Family { name: "any_bytes", run: any_bytes::any_bytes },
     Family { name: "bench", run: bench::bench },

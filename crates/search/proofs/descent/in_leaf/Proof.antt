@@ -1,35 +1,30 @@
 -- `descent::in_leaf` meets its contract. Assumes nothing.
-use mathlib.Core.Path.{sym, ap, _∙_}
-use Rattle.btree.specs.Search.{inLeaf, recordWith}
-use Rattle.search.proofs.Looking.{place-at, place-nowhere}
+use mathlib.Core.Path.{sym, _∙_}
 use Rattle.formats.specs.Format.{view}
+use Rattle.search.proofs.Narrowing.{leaf-none, leaf-has, leaf-other}
 use borrow.Author.Needs.{needs}
 use Rattle.search.proofs.descent.in_leaf.Statement.{statement}
 use Rattle.search.proofs.descent.in_leaf.Tie as tie
 
-record-with-requires : tie.Need-record-with-requires
-record-with-requires c κs = search needs
-
-enum-known-place : tie.Need-enum-known-place
-enum-known-place c = search needs
-
-enum-told : tie.Need-enum-told
-enum-told c = search needs
-
 returns : tie.Need-returns
-returns c =
-    let r = c .before .before .before in
-    let a = r .before .before .args in
-    let v = view (a .image .now) in
-    ap (inLeaf v (a .node)) (sym (place-at (recordWith v (a .node) (a .k) 0 (v .count (a .node))) _ (sym (r .record-with .ensures) ∙ c .before .place .given .1)))
+returns c = let a = c .before .before .args in leaf-none (view (a .image .now)) (a .k) (a .node) (a .after) (c .if1 .taken)
+
+sub-key-of : tie.Need-sub-key-of
+sub-key-of c = search needs
+
+key-of-requires : tie.Need-key-of-requires
+key-of-requires c κs = search needs
+
+sub-t8 : tie.Need-sub-t8
+sub-t8 c = search needs
 
 returns-2 : tie.Need-returns-2
-returns-2 c =
-    let r = c .before .before in
-    let a = r .before .before .args in
-    let v = view (a .image .now) in
-    ap (inLeaf v (a .node)) (sym (place-nowhere (recordWith v (a .node) (a .k) 0 (v .count (a .node))) (sym (r .record-with .ensures) ∙ c .enum-told .given .1)))
+returns-2 c = let a = c .before .before .before .before .args in
+    leaf-has (view (a .image .now)) (a .k) (a .node) (a .after) (c .before .before .if1 .left) (sym (c .before .key-of .ensures .0) ∙ c .if2 .taken)
+
+returns-3 : tie.Need-returns-3
+returns-3 c = let a = c .before .before .before .before .args in
+    leaf-other (view (a .image .now)) (a .k) (a .node) (a .after) (c .before .before .if1 .left) (λ e. c .if2 .left (c .before .key-of .ensures .0 ∙ e))
 
 pub in-leaf-spec : {M : Type 1} → statement M
-in-leaf-spec =
-    tie.close (tie.spec record-with-requires enum-known-place enum-told returns returns-2)
+in-leaf-spec = tie.close (tie.spec returns sub-key-of key-of-requires sub-t8 returns-2 returns-3)

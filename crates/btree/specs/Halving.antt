@@ -1,0 +1,29 @@
+-- W-202: how a key is looked for among records that are numbered from 0, of any count and with any keys.
+-- Assumes nothing.
+use mathlib.Core.Option.{Option, none, some}
+use Prim.Native.Nat.{ℕ, zero, suc, _+_, _-_, _/_}
+use native.Mathlib.Decide.{decLe}
+use Rattle.btree.specs.declared.Halved.{Halved}
+use Rattle.btree.specs.Decide.{cond}
+
+-- Of n records left, i being the first of them, where c keys were compared before: "it compares the middle one of those left (of two, the later), and
+-- goes on after it if its key is not above the asked one, else before it, until none is left". Each step leaves fewer, so as many as records are enough.
+unfoldable pub halving : (ℕ → ℕ) → ℕ → ℕ → ℕ → ℕ → ℕ → Halved
+halving key k zero i n c = record { after = i; compared = c }
+halving key k (suc steps) i zero c = record { after = i; compared = c }
+halving key k (suc steps) i (suc n) c =
+    cond (decLe (key (i + suc n / 2)) k)
+    (halving key k steps (i + suc n / 2 + 1) (suc n - suc n / 2 - 1) (c + 1))
+    (halving key k steps i (suc n / 2) (c + 1))
+
+abbrev pub halvedFrom : (ℕ → ℕ) → ℕ → ℕ → ℕ → ℕ → Halved
+halvedFrom key k i n c = halving key k n i n c
+
+-- of as many records as there are: after how many of them it ends, and how many keys it compared
+unfoldable pub halved : (ℕ → ℕ) → ℕ → ℕ → Halved
+halved key k count = halvedFrom key k 0 count 0
+
+-- the record before the point where it ends, none where it ends at 0
+abbrev pub before : ℕ → Option ℕ
+before zero = none
+before (suc i) = some i
