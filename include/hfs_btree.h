@@ -61,7 +61,7 @@ void hfs_check(const uint8_t *image, size_t len, uint32_t out[2]);
  * out[3]   how many keys the search compared, in all nodes it went through, at most six in each; 0
  *          if refused. In a node it compares the middle one of the records left, of two the later,
  *          and goes on after it if its key is not above the asked one, else before it, until none
- *          is left
+ *          is left; the last test in a leaf, for equality, is not counted
  * out[4]   how many nodes the search went through; 0 if refused
  * out[5]   .. out[12]  these nodes, from the root down; unused places are 0
  * data     found: the record's 12 data bytes, three pairs of first block and block count,

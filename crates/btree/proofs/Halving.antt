@@ -11,84 +11,83 @@ use lib.ListN.{length}
 use Rattle.btree.specs.declared.Halved.{Halved}
 use Rattle.btree.specs.Decide.{cond}
 use Rattle.btree.specs.Tree.{View, OnLevel, SoundTree}
-use Rattle.btree.specs.Halving.{halving, halvedFrom, halved, before}
+use Rattle.btree.specs.Halving.{oneMore, halving, halvedFrom, halved, before}
 use Rattle.btree.specs.Search.{Highest, highestOf, pathOf, recordWith, halvedIn, halvedTo, withKey, comparedOf}
 use Rattle.btree.proofs.Decisions.{cond-yes, cond-no}
 use Rattle.btree.proofs.Lists.{summed-most}
-use Rattle.btree.proofs.Ascent.{up-to, one-key}
+use Rattle.btree.proofs.Ascending.{up-to, one-key}
 use Rattle.btree.proofs.Leaves.{keys-mono}
 use Rattle.btree.proofs.Paths.{highest-some, highest-none, highest-at, path-on}
 use Rattle.btree.proofs.Answers.{with-some, with-none}
 
 module _ (key : ℕ → ℕ) (k : ℕ) where
   -- more steps change nothing
-  enough : (f g i n c : ℕ) → n ≤ f → n ≤ g → halving key k f i n c ≡ halving key k g i n c
+  enough : (f g i n : ℕ) → n ≤ f → n ≤ g → halving key k f i n ≡ halving key k g i n
   unfolding halving
-  enough zero zero i n c a b = refl
-  enough zero (suc g) i zero c a b = refl
-  enough zero (suc g) i (suc n) c a b = absurd (omega arith)
-  enough (suc f) zero i zero c a b = refl
-  enough (suc f) zero i (suc n) c a b = absurd (omega arith)
-  enough (suc f) (suc g) i zero c a b = refl
-  enough (suc f) (suc g) i (suc n) c a b =
-      rw (enough f g (i + suc n / 2 + 1) (suc n - suc n / 2 - 1) (c + 1) (omega arith) (omega arith), enough f g i (suc n / 2) (c + 1) (omega arith) (omega arith))
+  enough zero zero i n a b = refl
+  enough zero (suc g) i zero a b = refl
+  enough zero (suc g) i (suc n) a b = absurd (omega arith)
+  enough (suc f) zero i zero a b = refl
+  enough (suc f) zero i (suc n) a b = absurd (omega arith)
+  enough (suc f) (suc g) i zero a b = refl
+  enough (suc f) (suc g) i (suc n) a b =
+      rw (enough f g (i + suc n / 2 + 1) (suc n - suc n / 2 - 1) (omega arith) (omega arith), enough f g i (suc n / 2) (omega arith) (omega arith))
 
   -- none is left
-  pub halved-end : (i n c : ℕ) → n ≡ 0 → halvedFrom key k i n c ≡ record { after = i; compared = c }
+  pub halved-end : (i n : ℕ) → n ≡ 0 → halvedFrom key k i n ≡ record { end = i; compared = 0 }
   unfolding halving
-  halved-end i zero c e = refl
-  halved-end i (suc n) c e = absurd (omega arith)
+  halved-end i zero e = refl
+  halved-end i (suc n) e = absurd (omega arith)
 
   -- on after the middle one, or before it
-  pub halved-after : (i n c : ℕ) → 0 < n → key (i + n / 2) ≤ k → halvedFrom key k i n c ≡ halvedFrom key k (i + n / 2 + 1) (n - n / 2 - 1) (c + 1)
+  pub halved-after : (i n : ℕ) → 0 < n → key (i + n / 2) ≤ k → halvedFrom key k i n ≡ oneMore (halvedFrom key k (i + n / 2 + 1) (n - n / 2 - 1))
   unfolding halving
-  halved-after i zero c p h = absurd (omega arith)
-  halved-after i (suc n) c p h =
-      cond-yes (decLe (key (i + suc n / 2)) k) _ _ h ∙ enough n (suc n - suc n / 2 - 1) (i + suc n / 2 + 1) (suc n - suc n / 2 - 1) (c + 1) (omega arith) (omega arith)
+  halved-after i zero p h = absurd (omega arith)
+  halved-after i (suc n) p h =
+      ap oneMore (cond-yes (decLe (key (i + suc n / 2)) k) _ _ h ∙ enough n (suc n - suc n / 2 - 1) (i + suc n / 2 + 1) (suc n - suc n / 2 - 1) (omega arith) (omega arith))
 
-  pub halved-before : (i n c : ℕ) → 0 < n → k < key (i + n / 2) → halvedFrom key k i n c ≡ halvedFrom key k i (n / 2) (c + 1)
+  pub halved-before : (i n : ℕ) → 0 < n → k < key (i + n / 2) → halvedFrom key k i n ≡ oneMore (halvedFrom key k i (n / 2))
   unfolding halving
-  halved-before i zero c p h = absurd (omega arith)
-  halved-before i (suc n) c p h =
-      cond-no (decLe (key (i + suc n / 2)) k) _ _ (λ q. omega arith) ∙ enough n (suc n / 2) i (suc n / 2) (c + 1) (omega arith) (omega arith)
+  halved-before i zero p h = absurd (omega arith)
+  halved-before i (suc n) p h =
+      ap oneMore (cond-no (decLe (key (i + suc n / 2)) k) _ _ (λ q. omega arith) ∙ enough n (suc n / 2) i (suc n / 2) (omega arith) (omega arith))
 
   -- what holds where none is left, and before a step where it holds after it, holds of halving
-  module _ (P : ℕ → ℕ → ℕ → Halved → Type 0) (ends : (i c : ℕ) → P i 0 c (record { after = i; compared = c }))
-      (after : (i n c : ℕ) (r : Halved) → 0 < n → key (i + n / 2) ≤ k → P (i + n / 2 + 1) (n - n / 2 - 1) (c + 1) r → P i n c r)
-      (earlier : (i n c : ℕ) (r : Halved) → 0 < n → k < key (i + n / 2) → P i (n / 2) (c + 1) r → P i n c r) where
-    by-steps : (f i n c : ℕ) → n ≤ f → P i n c (halving key k f i n c)
+  module _ (P : ℕ → ℕ → Halved → Type 0) (ends : (i : ℕ) → P i 0 (record { end = i; compared = 0 }))
+      (after : (i n : ℕ) (r : Halved) → 0 < n → key (i + n / 2) ≤ k → P (i + n / 2 + 1) (n - n / 2 - 1) r → P i n (oneMore r))
+      (earlier : (i n : ℕ) (r : Halved) → 0 < n → k < key (i + n / 2) → P i (n / 2) r → P i n (oneMore r)) where
+    by-steps : (f i n : ℕ) → n ≤ f → P i n (halving key k f i n)
     unfolding halving
-    by-steps zero i zero c a = ends i c
-    by-steps zero i (suc n) c a = absurd (omega arith)
-    by-steps (suc f) i zero c a = ends i c
-    by-steps (suc f) i (suc n) c a =
-        go (decLe (key (i + suc n / 2)) k) (by-steps f (i + suc n / 2 + 1) (suc n - suc n / 2 - 1) (c + 1) (omega arith)) (by-steps f i (suc n / 2) (c + 1) (omega arith))
+    by-steps zero i zero a = ends i
+    by-steps zero i (suc n) a = absurd (omega arith)
+    by-steps (suc f) i zero a = ends i
+    by-steps (suc f) i (suc n) a =
+        go (decLe (key (i + suc n / 2)) k) (by-steps f (i + suc n / 2 + 1) (suc n - suc n / 2 - 1) (omega arith)) (by-steps f i (suc n / 2) (omega arith))
       where
-        go : {x y : Halved} (q : Dec (key (i + suc n / 2) ≤ k)) → P (i + suc n / 2 + 1) (suc n - suc n / 2 - 1) (c + 1) x → P i (suc n / 2) (c + 1) y → P i (suc n) c (cond q x y)
-        go (yes p) x y = after i (suc n) c _ (omega arith) p x
-        go (no p) x y = earlier i (suc n) c _ (omega arith) (omega arith) y
+        go : {x y : Halved} (q : Dec (key (i + suc n / 2) ≤ k)) → P (i + suc n / 2 + 1) (suc n - suc n / 2 - 1) x → P i (suc n / 2) y → P i (suc n) (oneMore (cond q x y))
+        go (yes p) x y = after i (suc n) _ (omega arith) p x
+        go (no p) x y = earlier i (suc n) _ (omega arith) (omega arith) y
 
-    by-halving : (n : ℕ) → P 0 n 0 (halved key k n)
+    by-halving : (n : ℕ) → P 0 n (halved key k n)
     unfolding halved
-    by-halving n = by-steps n 0 n 0 (omega arith)
+    by-halving n = by-steps n 0 n (omega arith)
 
   -- it ends among the records
-  pub halved-inside : (n : ℕ) → halved key k n .after ≤ n
+  pub halved-inside : (n : ℕ) → halved key k n .end ≤ n
   halved-inside n =
-      let q = by-halving (λ i n c r. r .after ≤ i + n) (λ i c. omega arith) (λ i n c r p h a. omega arith) (λ i n c r p h a. omega arith) n in
+      let q = by-halving (λ i n r. r .end ≤ i + n) (λ i. omega arith) (λ i n r p h a. omega arith) (λ i n r p h a. omega arith) n in
       omega arith
 
-  few-step : (n n′ c m : ℕ) → 0 < n → n′ ≤ n / 2 → ((b : ℕ) → n′ < 2 ^ b → m ≤ c + 1 + b) → (b : ℕ) → n < 2 ^ b → m ≤ c + b
-  few-step n n′ c m p h f zero l = absurd (omega arith)
-  few-step n n′ c m p h f (suc b) l = let e = pow-succ' 2 b in let q = f b (omega arith) in omega arith
+  few-step : (n n′ c : ℕ) → 0 < n → n′ ≤ n / 2 → ((b : ℕ) → n′ < 2 ^ b → c ≤ b) → (b : ℕ) → n < 2 ^ b → suc c ≤ b
+  few-step n n′ c p h f zero l = absurd (omega arith)
+  few-step n n′ c p h f (suc b) l = let e = pow-succ' 2 b in let q = f b (omega arith) in omega arith
 
   -- of fewer than 2 ^ b records it compares at most b
   pub few : (n b : ℕ) → n < 2 ^ b → halved key k n .compared ≤ b
-  few n b l =
-      let q = by-halving (λ i n c r. (b : ℕ) → n < 2 ^ b → r .compared ≤ c + b) (λ i c b l. omega arith)
-      (λ i n c r p h f. few-step n (n - n / 2 - 1) c (r .compared) p (omega arith) f)
-      (λ i n c r p h f. few-step n (n / 2) c (r .compared) p (omega arith) f) n b l in
-      omega arith
+  few =
+      by-halving (λ i n r. (b : ℕ) → n < 2 ^ b → r .compared ≤ b) (λ i b l. omega arith)
+      (λ i n r p h. few-step n (n - n / 2 - 1) (r .compared) p (omega arith))
+      (λ i n r p h. few-step n (n / 2) (r .compared) p (omega arith))
 
   -- so at most as many as their count has binary digits: 2 to the power of one less is at most the count
   pub most : (n : ℕ) → 0 < n → 2 ^ (halved key k n .compared - 1) ≤ n
@@ -109,11 +108,11 @@ module _ (key : ℕ → ℕ) (k : ℕ) where
       pub low : (i : ℕ) → i < first → i < n → key i ≤ k
       pub high : (i : ℕ) → end ≤ i → i < n → k < key i
 
-    pub halved-apart : Apart (halved key k n .after) (halved key k n .after)
+    pub halved-apart : Apart (halved key k n .end) (halved key k n .end)
     halved-apart =
-        by-halving (λ i m c r. i + m ≤ n → Apart i (i + m) → Apart (r .after) (r .after)) (λ i c l a. record { low = a .low; high = λ j u w. a .high j (omega arith) w })
-        (λ i m c r p h f l a. f (omega arith) (record { low = λ j u w. let z = up-to key n up j (i + m / 2) (omega arith) (omega arith) in omega arith; high = λ j u w. a .high j (omega arith) w }))
-        (λ i m c r p h f l a. f (omega arith) (record { low = a .low; high = λ j u w. let z = up-to key n up (i + m / 2) j (omega arith) w in omega arith }))
+        by-halving (λ i m r. i + m ≤ n → Apart i (i + m) → Apart (r .end) (r .end)) (λ i l a. record { low = a .low; high = λ j u w. a .high j (omega arith) w })
+        (λ i m r p h f l a. f (omega arith) (record { low = λ j u w. let z = up-to key n up j (i + m / 2) (omega arith) (omega arith) in omega arith; high = λ j u w. a .high j (omega arith) w }))
+        (λ i m r p h f l a. f (omega arith) (record { low = a .low; high = λ j u w. let z = up-to key n up (i + m / 2) j (omega arith) w in omega arith }))
         n (omega arith) (record { low = λ j u w. absurd (omega arith); high = λ j u w. absurd (omega arith) })
 
 module _ (v : View) (k n : ℕ) where
@@ -130,7 +129,7 @@ module _ (v : View) (k n : ℕ) where
     -- where a node's keys ascend, halving comes to the record with the highest key not above k
     pub halved-highest : highestOf v n k (count n) ≡ halvedTo v k n
     unfolding halvedIn
-    halved-highest = go (halved (key n) k (count n) .after) (halved-apart (key n) k (count n) up) (halved-inside (key n) k (count n))
+    halved-highest = go (halved (key n) k (count n) .end) (halved-apart (key n) k (count n) up) (halved-inside (key n) k (count n))
       where
         go : (a : ℕ) → Apart (key n) k (count n) up a a → a ≤ count n → highestOf v n k (count n) ≡ before a
         go zero s u = none-highest (λ j l. s .high j (omega arith) l)
@@ -176,4 +175,4 @@ module _ (v : View) (s : SoundTree v) (k d n : ℕ) (o : OnLevel v d n) where
 -- where no node of the tree has 2 ^ b records, a search compares at most b keys for each node of its path
 pub compared-few : (v : View) (k b : ℕ) → ((d n : ℕ) → OnLevel v d n → v .count n < 2 ^ b) → comparedOf v k ≤ b * length (pathOf v k)
 unfolding halvedIn
-compared-few v k b h = summed-most (λ n. halvedIn v k n .compared) b (pathOf v k) (λ n m. let (d, o) = path-on v k n m in few (v .key n) k (v .count n) b (h d n o))
+compared-few v k b h = summed-most _ b (pathOf v k) (λ n m. let (d, o) = path-on v k n m in few (v .key n) k (v .count n) b (h d n o))

@@ -6,22 +6,27 @@ use native.Mathlib.Decide.{decLe}
 use Rattle.btree.specs.declared.Halved.{Halved}
 use Rattle.btree.specs.Decide.{cond}
 
--- Of n records left, i being the first of them, where c keys were compared before: "it compares the middle one of those left (of two, the later), and
--- goes on after it if its key is not above the asked one, else before it, until none is left". Each step leaves fewer, so as many as records are enough.
-unfoldable pub halving : (ℕ → ℕ) → ℕ → ℕ → ℕ → ℕ → ℕ → Halved
-halving key k zero i n c = record { after = i; compared = c }
-halving key k (suc steps) i zero c = record { after = i; compared = c }
-halving key k (suc steps) i (suc n) c =
-    cond (decLe (key (i + suc n / 2)) k)
-    (halving key k steps (i + suc n / 2 + 1) (suc n - suc n / 2 - 1) (c + 1))
-    (halving key k steps i (suc n / 2) (c + 1))
+-- with one comparison more
+abbrev pub oneMore : Halved → Halved
+oneMore r = record { end = r .end; compared = suc (r .compared) }
 
-abbrev pub halvedFrom : (ℕ → ℕ) → ℕ → ℕ → ℕ → ℕ → Halved
-halvedFrom key k i n c = halving key k n i n c
+-- Of n records left, of which i is the first: "it compares the middle one of those left (of two, the later), and goes on after it if its key is not above
+-- the asked one, else before it, until none is left". Each step leaves fewer, so as many steps as records are enough.
+unfoldable pub halving : (ℕ → ℕ) → ℕ → ℕ → ℕ → ℕ → Halved
+halving key k zero i n = record { end = i; compared = 0 }
+halving key k (suc steps) i zero = record { end = i; compared = 0 }
+halving key k (suc steps) i (suc n) =
+    oneMore
+    (cond (decLe (key (i + suc n / 2)) k)
+    (halving key k steps (i + suc n / 2 + 1) (suc n - suc n / 2 - 1))
+    (halving key k steps i (suc n / 2)))
 
--- of as many records as there are: after how many of them it ends, and how many keys it compared
+abbrev pub halvedFrom : (ℕ → ℕ) → ℕ → ℕ → ℕ → Halved
+halvedFrom key k i n = halving key k n i n
+
+-- of all records of a count
 unfoldable pub halved : (ℕ → ℕ) → ℕ → ℕ → Halved
-halved key k count = halvedFrom key k 0 count 0
+halved key k count = halvedFrom key k 0 count
 
 -- the record before the point where it ends, none where it ends at 0
 abbrev pub before : ℕ → Option ℕ

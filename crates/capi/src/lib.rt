@@ -1,9 +1,9 @@
 // What C and Rust call. Every element that a call is lent to write is written, whatever the answer.
 ghost use mathlib.Core.Path.{_≡_};
-ghost use Rattle.btree.specs.Numbers.{lookupReply, salvageReply};
+ghost use Rattle.btree.specs.Numbers.{lookupReply, salvageReply, replyNumbers, lookupNumbers};
 ghost use Rattle.extents.specs.Reader.{verdict, lookedUp, dataPart, foundPart, salvaged, seenPart};
 ghost use Rattle.formats.specs.Key.{asked};
-ghost use Rattle.capi.specs.Written.{verdictNumbers, replyNumbers, lookupNumbers, dataBytes};
+ghost use Rattle.capi.specs.Written.{verdictNumbers, dataBytes};
 use btree::Answer;
 use btree::Lookup;
 use btree::Salvage;

@@ -4,25 +4,26 @@ use mathlib.Core.List.{List}
 use Prim.Native.Nat.{ℕ, _*_, _^_, _≤_, _<_}
 use native.Mathlib.Omega.{arith}
 use lib.ListN.{length}
+use Rattle.btree.specs.Lists.{_∈_}
+use Rattle.btree.specs.Tree.{OnLevel}
 use Rattle.btree.specs.Header.{viewOf}
 use Rattle.btree.specs.Search.{pathOf, halvedIn, comparedOf}
+use Rattle.btree.proofs.Paths.{path-on}
 use Rattle.btree.proofs.Halving.{few, compared-few}
-use Rattle.formats.specs.Format.{Records, view}
+use Rattle.formats.specs.Format.{kindOn, levelOf, view}
 use Rattle.formats.proofs.Sizes.{max-most}
 use Rattle.extents.specs.Reader.{Sound}
 
-module _ (img : List ℕ) where
+module _ (img : List ℕ) (s : Sound img) where
   -- a node holds 35 records at most, which is less than 2 to the power of six
-  records-few : (kind n : ℕ) → Records img kind n → view img .count n < 2 ^ 6
+  node-few : (d n : ℕ) → OnLevel (view img) d n → view img .count n < 2 ^ 6
   unfolding viewOf
-  records-few kind n r = let f = r .few in let m = max-most kind in omega arith
+  node-few d n o = let f = s .nodes d n o .records .few in let m = max-most (kindOn (levelOf img n)) in omega arith
 
-  -- "at most six in a 512-byte node", of any node whose records are laid out right
-  pub six-in-a-node : (k kind n : ℕ) → Records img kind n → halvedIn (view img) k n .compared ≤ 6
+  -- "at most six in a 512-byte node"
+  pub six-in-path : (k n : ℕ) → n ∈ pathOf (view img) k → halvedIn (view img) k n .compared ≤ 6
   unfolding halvedIn
-  six-in-a-node k kind n r = few (view img .key n) k (view img .count n) 6 (records-few kind n r)
+  six-in-path k n m = let (d, o) = path-on (view img) k n m in few (view img .key n) k (view img .count n) 6 (node-few d n o)
 
-  -- so of a sound image at most six for each node of the path
-  pub six-each : Sound img → (k : ℕ) → comparedOf (view img) k ≤ 6 * length (pathOf (view img) k)
-  unfolding viewOf
-  six-each s k = compared-few (view img) k 6 (λ d n o. records-few _ n (s .nodes d n o .records))
+  pub six-each : (k : ℕ) → comparedOf (view img) k ≤ 6 * length (pathOf (view img) k)
+  six-each k = compared-few (view img) k 6 node-few

@@ -12,7 +12,7 @@ use Rattle.btree.specs.declared.Lookup.{Lookup}
 use Rattle.btree.specs.Lists.{_∈_, lastOr}
 use Rattle.btree.specs.Tree.{Rec, leavesAt}
 use Rattle.btree.specs.Header.{depthOf, viewOf}
-use Rattle.btree.specs.Search.{answerOf, refused, searched, afterCheck, lookupOf}
+use Rattle.btree.specs.Search.{answerOf, refused, descentOf, afterCheck, lookupOf}
 use Rattle.btree.proofs.Paths.{path-short, leaf-stands, leafList-once}
 use Rattle.btree.proofs.Answers.{found-record, record-found, absent-none, none-absent, absent-place}
 use Rattle.formats.specs.declared.key.Key.{Key}
@@ -21,7 +21,7 @@ use Rattle.formats.specs.Format.{recordAt, keyOf, view, dataAt}
 use Rattle.extents.specs.Reader.{Sound, verdict, leafList, searchPath, keysCompared, lookedUp}
 use Rattle.extents.specs.Demands.{HasKey, SoundAnswer, LookupSays}
 use Rattle.formats.proofs.Order.{InRange, Bytes, key-range, packed-same}
-use Rattle.extents.proofs.Compared.{six-each}
+use Rattle.extents.proofs.Compared.{six-in-path, six-each}
 use Rattle.extents.proofs.Parts.{leaf-inside}
 use Rattle.extents.proofs.Soundness.{number-iff}
 
@@ -34,7 +34,7 @@ module _ (img : List ℕ) (b : Bytes img) (k : Key) (r : InRange k) (s : Sound i
       let q = packed-same (keyAt img (recordAt img (x .node) (x .at))) k (key-range img b (recordAt img (x .node) (x .at))) r in
       (λ h. sym e ∙ q .0 h, λ h. q .1 (e ∙ h))
 
-  sound-answer : (l : Lookup) → l ≡ searched (view img) (packed k) → SoundAnswer img k l
+  sound-answer : (l : Lookup) → l ≡ descentOf (view img) (packed k) → SoundAnswer img k l
   unfolding viewOf
   sound-answer l e =
       record {
@@ -47,6 +47,7 @@ module _ (img : List ℕ) (b : Bytes img) (k : Key) (r : InRange k) (s : Sound i
         short = path-short (view img) (packed k);
         eight = s .header .depthInRange;
         counted = c;
+        six = six-in-path img s (packed k);
         few = rw c (six-each img s (packed k));
       }
     where
@@ -93,7 +94,7 @@ module _ (img : List ℕ) (b : Bytes img) (k : Key) (r : InRange k) where
       go (yes p) = absurd (h p)
       go (no n) = refl
 
-  checked : (n place : ℕ) → n ≡ 0 → afterCheck (view img) (packed k) n place ≡ searched (view img) (packed k)
+  checked : (n place : ℕ) → n ≡ 0 → afterCheck (view img) (packed k) n place ≡ descentOf (view img) (packed k)
   checked n place e = rw e
 
   faulty : (n place : ℕ) → (n ≡ 0 → ⊥) → afterCheck (view img) (packed k) n place ≡ refused n place
@@ -104,7 +105,7 @@ module _ (img : List ℕ) (b : Bytes img) (k : Key) (r : InRange k) where
   pub lookup-refused : Lawful (k .fork) → (verdict img .number ≡ 0 → ⊥) → lookedUp img k ≡ refused (verdict img .number) (verdict img .place)
   lookup-refused h z = of-lawful h ∙ faulty (verdict img .number) (verdict img .place) z
 
-  pub lookup-answers : Lawful (k .fork) → verdict img .number ≡ 0 → lookedUp img k ≡ searched (view img) (packed k)
+  pub lookup-answers : Lawful (k .fork) → verdict img .number ≡ 0 → lookedUp img k ≡ descentOf (view img) (packed k)
   lookup-answers h z = of-lawful h ∙ checked (verdict img .number) (verdict img .place) z
 
   pub lookup-says : LookupSays img k (lookedUp img k)

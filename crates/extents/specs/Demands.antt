@@ -13,10 +13,10 @@ use Rattle.btree.specs.declared.Lookup.{Lookup}
 use Rattle.btree.specs.Lists.{_∈_, lastOr}
 use Rattle.btree.specs.Tree.{Rec}
 use Rattle.btree.specs.Header.{depthOf}
-use Rattle.btree.specs.Search.{pathOut, refused}
+use Rattle.btree.specs.Search.{pathOut, refused, halvedIn}
 use Rattle.formats.specs.declared.key.Key.{Key}
-use Rattle.formats.specs.Key.{Lawful, compared, keyAt}
-use Rattle.formats.specs.Format.{recordAt}
+use Rattle.formats.specs.Key.{Lawful, packed, compared, keyAt}
+use Rattle.formats.specs.Format.{recordAt, view}
 use Rattle.extents.specs.Reader.{Sound, verdict, leafList, searchPath, keysCompared, Part}
 
 -- "A record has the asked key when the two keys compare as 0."
@@ -39,8 +39,10 @@ pub record SoundAnswer (img : List ℕ) (k : Key) (r : Lookup) : Type 0 where
   pub whole : (n i : ℕ) → r .answer ≡ Found n i → length (searchPath img k) ≡ depthOf img
   pub short : length (searchPath img k) ≤ depthOf img
   pub eight : depthOf img ≤ 8
-  -- W-202: "how many keys it compared so, in all: at most six in a 512-byte node"
+  -- W-202: "A lookup also answers how many keys it compared so, in all"
   pub counted : r .compared ≡ keysCompared img k
+  -- "at most six in a 512-byte node": in each node of the path, so at most six times its length
+  pub six : (n : ℕ) → n ∈ searchPath img k → halvedIn (view img) (packed k) n .compared ≤ 6
   pub few : r .compared ≤ 6 * length (searchPath img k)
 
 -- what a lookup says of any image and any key; "Of anything else it says neither: it refuses."

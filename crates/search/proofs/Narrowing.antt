@@ -10,55 +10,62 @@ use native.Mathlib.Decide.{ℕ-discrete}
 use Rattle.btree.specs.declared.Answer.the-variants.{Found, Absent}
 use Rattle.btree.specs.declared.Halved.{Halved}
 use Rattle.btree.specs.Tree.{View}
-use Rattle.btree.specs.Halving.{halvedFrom, halved, before}
+use Rattle.btree.specs.Halving.{oneMore, halvedFrom, halved, before}
 use Rattle.btree.specs.Search.{inLeaf, withKey}
 use Rattle.btree.proofs.Decisions.{cond-yes, cond-no}
 use Rattle.btree.proofs.Halving.{halved-end, halved-after, halved-before}
 
 module _ (key : ℕ → ℕ) (k c : ℕ) where
-  -- what is left of c records gives what all give
-  pub record Left (low high compared : ℕ) : Type 0 where
+  -- what is left of c records, and the keys compared so far, give what all give
+  pub record Narrowed (low high compared : ℕ) : Type 0 where
     pub order : low ≤ high
-    pub tally : compared + (high - low) ≤ c
     pub inside : high ≤ c
-    pub same : halvedFrom key k low (high - low) compared ≡ halved key k c
+    pub tally : compared + (high - low) ≤ c
+    pub ends : halvedFrom key k low (high - low) .end ≡ halved key k c .end
+    pub counts : compared + halvedFrom key k low (high - low) .compared ≡ halved key k c .compared
 
-  pub left-all : Left 0 c 0
+  pub narrowed-start : Narrowed 0 c 0
   unfolding halved
-  left-all = record { order = omega arith; tally = omega arith; inside = omega arith; same = rw (sub-zero c) }
+  narrowed-start = record { order = omega arith; inside = omega arith; tally = omega arith; ends = rw (sub-zero c); counts = rw (sub-zero c) (omega arith) }
 
-  module _ (low high compared : ℕ) (l : Left low high compared) where
-    -- the middle one, counted from the first
+  module _ (low high compared : ℕ) (l : Narrowed low high compared) where
+    -- a step to other bounds
+    on-to : (low′ high′ : ℕ) → low′ ≤ high′ → high′ ≤ c → compared + 1 + (high′ - low′) ≤ c
+        → halvedFrom key k low (high - low) ≡ oneMore (halvedFrom key k low′ (high′ - low′)) → Narrowed low′ high′ (compared + 1)
+    on-to low′ high′ o i t e =
+        record {
+          order = o;
+          inside = i;
+          tally = t;
+          ends = sym (ap (λ (r : Halved). r .end) e) ∙ l .ends;
+          counts = let q = ap (λ (r : Halved). r .compared) e in let w = l .counts in omega arith;
+        }
+
+    -- the middle one, oneMore from the first
     from-low : low < high → (low + high) / 2 ≡ low + (high - low) / 2
     from-low h = omega arith
 
-    pub left-after : (x : ℕ) → low < high → x ≡ key ((low + high) / 2) → x ≤ k → Left ((low + high) / 2 + 1) high (compared + 1)
-    left-after x h is u =
+    pub narrowed-after : (x : ℕ) → low < high → x ≡ key ((low + high) / 2) → x ≤ k → Narrowed ((low + high) / 2 + 1) high (compared + 1)
+    narrowed-after x h is u =
         let m = from-low h in
         let t = l .tally in
         let e : high - ((low + high) / 2 + 1) ≡ high - low - (high - low) / 2 - 1 = omega arith in
-        record {
-          order = omega arith;
-          tally = omega arith;
-          inside = l .inside;
-          same = rw (e, m) (sym (halved-after key k low (high - low) compared (omega arith) (rw (is, m) at u)) ∙ l .same);
-        }
+        on-to ((low + high) / 2 + 1) high (omega arith) (l .inside) (omega arith) (rw (e, m) (halved-after key k low (high - low) (omega arith) (rw (is, m) at u)))
 
-    pub left-before : (x : ℕ) → low < high → x ≡ key ((low + high) / 2) → k < x → Left low ((low + high) / 2) (compared + 1)
-    left-before x h is u =
+    pub narrowed-before : (x : ℕ) → low < high → x ≡ key ((low + high) / 2) → k < x → Narrowed low ((low + high) / 2) (compared + 1)
+    narrowed-before x h is u =
         let m = from-low h in
         let t = l .tally in
         let i = l .inside in
         let e : (low + high) / 2 - low ≡ (high - low) / 2 = omega arith in
-        record {
-          order = omega arith;
-          tally = omega arith;
-          inside = omega arith;
-          same = rw e (sym (halved-before key k low (high - low) compared (omega arith) (rw (is, m) at u)) ∙ l .same);
-        }
+        on-to low ((low + high) / 2) (omega arith) (omega arith) (omega arith) (rw e (halved-before key k low (high - low) (omega arith) (rw (is, m) at u)))
 
-    pub left-none : high ≤ low → record { after = low; compared = compared } ≡ halved key k c
-    left-none h = sym (halved-end key k low (high - low) compared (omega arith)) ∙ l .same
+    pub narrowed-end : high ≤ low → record { end = low; compared = compared } ≡ halved key k c
+    narrowed-end h =
+        let e = halved-end key k low (high - low) (omega arith) in
+        let p : low ≡ halved key k c .end = sym (ap (λ (r : Halved). r .end) e) ∙ l .ends in
+        let q : compared ≡ halved key k c .compared = let z = ap (λ (r : Halved). r .compared) e in let w = l .counts in omega arith in
+        λ i. record { end = p i; compared = q i }
 
 pub before-none : (a : ℕ) → a ≡ 0 → before a ≡ none
 before-none a e = rw e

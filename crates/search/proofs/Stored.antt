@@ -1,4 +1,5 @@
--- The descent, node after node: what is left of the path from here, stored after what is there, is the whole path; and so are the keys compared in it.
+-- The descent, node after node: what is left of the path from here, stored after what is there, is the whole path, and the keys compared so far and
+-- in what is left are all that are compared.
 -- Assumes nothing.
 use mathlib.Core.Path.{_≡_, refl, sym, ap, _∙_}
 use mathlib.Core.Logic.{_≢_}
@@ -12,11 +13,10 @@ use lib.Seq.{set-append-seam}
 use Rattle.btree.specs.declared.Answer.{Answer}
 use Rattle.btree.specs.declared.Answer.the-variants.{Absent}
 use Rattle.btree.specs.declared.Halved.{Halved}
-use Rattle.btree.specs.declared.Lookup.{Lookup}
-use Rattle.btree.specs.Lists.{padded, summed, fromOption}
+use Rattle.btree.specs.Lists.{padded, fromOption}
 use Rattle.btree.specs.Tree.{View, OnLevel, SoundTree}
 use Rattle.btree.specs.Halving.{before}
-use Rattle.btree.specs.Search.{Highest, highestOf, pathFrom, pathAt, inLeaf, answerFrom, answerAt, halvedIn, halvedTo, withKey, pathOut, searched}
+use Rattle.btree.specs.Search.{highestOf, pathFrom, pathAt, inLeaf, answerFrom, answerAt, halvedIn, withKey, comparedIn, descentOf}
 use Rattle.btree.proofs.Leaves.{on-root, on-child}
 use Rattle.btree.proofs.Paths.{highest-some, path-length}
 use Rattle.btree.proofs.Halving.{halved-pointer, halved-leaf}
@@ -55,10 +55,6 @@ module _ (v : View) (k : ℕ) where
   path-head zero n = refl
   path-head (suc h) n = refl
 
-  -- the keys compared in these nodes
-  abbrev keysIn : List ℕ → ℕ
-  keysIn = summed (λ n. halvedIn v k n .compared)
-
   -- the nodes stored, the last of which is `node`, and the keys compared in those before it
   pub record Stored (depth : ℕ) (nodes : List ℕ) (node len compared : ℕ) : Type 0 where
     pub some : 0 < len
@@ -70,10 +66,10 @@ module _ (v : View) (k : ℕ) where
     pub path : stored nodes len (pathTail (depth - len) node) ≡ padded 8 (pathAt v depth k)
     pub size : len + length (pathTail (depth - len) node) ≡ length (pathAt v depth k)
     pub answer : answerFrom v (depth - len) k node ≡ answerAt v depth k
-    pub tally : compared + keysIn (node ∷ pathTail (depth - len) node) ≡ keysIn (pathAt v depth k)
+    pub tally : compared + comparedIn v k (node ∷ pathTail (depth - len) node) ≡ comparedIn v k (pathAt v depth k)
     pub low : compared ≤ 65536 * (len - 1)
 
-  pub stored-none : v .depth ≡ 0 → stoppedAt (replicate 8 0) 0 0 0 ≡ searched v k
+  pub stored-none : v .depth ≡ 0 → stoppedAt (replicate 8 0) 0 0 0 ≡ descentOf v k
   stored-none e = rw e
 
   pub stored-root : (depth : ℕ) → depth ≢ 0 → depth ≡ v .depth → depth ≤ 8 → Stored depth (set (replicate 8 0) 0 (v .root)) (v .root) 1 0
@@ -98,17 +94,17 @@ module _ (v : View) (k : ℕ) where
 
   module _ (s : SoundTree v) (depth : ℕ) (nodes : List ℕ) (node len compared : ℕ) (t : Stored depth nodes node len compared) (r : Halved) (is : r ≡ halvedIn v k node) where
     -- the pointer that halving comes to is the one with the highest key not above k
-    pointer : (o : Option ℕ) → before (r .after) ≡ o → highestOf v node k (count node) ≡ o
-    pointer o e = halved-pointer v s k (len - 1) node (t .on) ∙ ap (λ (x : Halved). before (x .after)) (sym is) ∙ e
+    pointer : (o : Option ℕ) → before (r .end) ≡ o → highestOf v node k (count node) ≡ o
+    pointer o e = halved-pointer v s k (len - 1) node (t .on) ∙ ap (λ (x : Halved). before (x .end)) (sym is) ∙ e
 
     same-count : r .compared ≡ halvedIn v k node .compared
     same-count = ap (λ (x : Halved). x .compared) is
 
     -- on to the child of the record before the end
-    pub stored-child : len < depth → r .after ≢ 0 → r .compared < 65536 → Stored depth (set nodes len (child node (r .after - 1))) (child node (r .after - 1)) (len + 1) (compared + r .compared)
+    pub stored-child : len < depth → r .end ≢ 0 → r .compared < 65536 → Stored depth (set nodes len (child node (r .end - 1))) (child node (r .end - 1)) (len + 1) (compared + r .compared)
     stored-child l z few =
-        let i = r .after - 1 in
-        let e = pointer (some i) (before-some (r .after) z) in
+        let i = r .end - 1 in
+        let e = pointer (some i) (before-some (r .end) z) in
         let h = depth - (len + 1) in
         let q = one-more depth len l in
         let w : pathTail (depth - len) node ≡ child node i ∷ pathTail h (child node i) = rw (q, e) (path-head h (child node i)) in
@@ -123,30 +119,30 @@ module _ (v : View) (k : ℕ) where
           path = ap (λ (j : ℕ). stored (set nodes len (child node i)) j (pathTail h (child node i))) (add-one len) ∙ sym (ap (stored nodes len) w) ∙ t .path;
           size = let a = ap length w in let b = t .size in omega arith;
           answer = sym (rw (q, e)) ∙ t .answer;
-          tally = let a = ap keysIn w in let b = t .tally in let c = same-count in omega arith;
+          tally = let a = ap (comparedIn v k) w in let b = t .tally in let c = same-count in omega arith;
           low = let a = t .low in let p = t .some in omega arith;
         }
 
-    finish : (x : Answer) → x ≡ answerAt v depth k → pathTail (depth - len) node ≡ [] → record { answer = x; path = record { nodes = nodes; len = len }; compared = compared + r .compared } ≡ searched v k
+    finish : (x : Answer) → x ≡ answerAt v depth k → pathTail (depth - len) node ≡ [] → record { answer = x; path = record { nodes = nodes; len = len }; compared = compared + r .compared } ≡ descentOf v k
     finish x e w =
         let p : nodes ≡ padded 8 (pathAt v depth k) = sym (ap (stored nodes len) w) ∙ t .path in
         let n : len ≡ length (pathAt v depth k) = let a = ap length w in let b = t .size in omega arith in
-        let c : compared + r .compared ≡ keysIn (pathAt v depth k) = let a = ap keysIn w in let b = t .tally in let d = same-count in omega arith in
+        let c : compared + r .compared ≡ comparedIn v k (pathAt v depth k) = let a = ap (comparedIn v k) w in let b = t .tally in let d = same-count in omega arith in
         rw (e, p, n, c, t .deep)
 
     -- no pointer key is low enough
-    pub stops-path : len < depth → r .after ≡ 0 → stoppedAt nodes len node (compared + r .compared) ≡ searched v k
+    pub stops-path : len < depth → r .end ≡ 0 → stoppedAt nodes len node (compared + r .compared) ≡ descentOf v k
     stops-path l z =
-        let e = pointer none (before-none (r .after) z) in
+        let e = pointer none (before-none (r .end) z) in
         let q = one-more depth len l in
         finish (Absent node) (sym (rw (q, e)) ∙ t .answer) (rw (q, e))
 
     -- the leaf is reached
-    pub ends-path : (x : Answer) → depth ≤ len → x ≡ inLeaf v node (withKey v k node (before (r .after)))
-        → record { answer = x; path = record { nodes = nodes; len = len }; compared = compared + r .compared } ≡ searched v k
+    pub ends-path : (x : Answer) → depth ≤ len → x ≡ inLeaf v node (withKey v k node (before (r .end)))
+        → record { answer = x; path = record { nodes = nodes; len = len }; compared = compared + r .compared } ≡ descentOf v k
     ends-path x l e =
         let q : depth - len ≡ 0 = let f = t .few in omega arith in
         let w : answerFrom v 0 k node ≡ answerAt v depth k = sym (rw q) ∙ t .answer in
         finish x
-        (e ∙ ap (λ (h : Halved). inLeaf v node (withKey v k node (before (h .after)))) is ∙ ap (inLeaf v node) (halved-leaf v s k (len - 1) node (t .on)) ∙ w)
+        (e ∙ ap (λ (h : Halved). inLeaf v node (withKey v k node (before (h .end)))) is ∙ ap (inLeaf v node) (halved-leaf v s k (len - 1) node (t .on)) ∙ w)
         (rw q)

@@ -1,7 +1,7 @@
 // The descent from the root to a leaf.
 ghost use mathlib.Core.Path.{_≡_};
 ghost use Rattle.btree.specs.Halving.{before};
-ghost use Rattle.btree.specs.Search.{inLeaf, withKey, searched};
+ghost use Rattle.btree.specs.Search.{inLeaf, withKey, descentOf};
 ghost use Rattle.formats.specs.Format.{view};
 ghost use Rattle.search.specs.Descent.{Searchable, stoppedAt};
 use super::halving::halve;
@@ -25,15 +25,15 @@ fn absent(nodes: [u32; 8], len: u32, node: u32, compared: u32) -> Lookup
     }
 }
 
-// What a leaf says of the key where halving ends after so many of its records: the last of them may have it.
-fn in_leaf(image: &[u8], k: u64, node: u32, after: u32) -> Answer
-    ensures { λ r. ⌜ r ≡ inLeaf (view (now (image .entry))) node (withKey (view (now (image .entry))) k node (before after)) ⌝ }
+// What a leaf says of the key where halving ends here: the record before the end may have it.
+fn in_leaf(image: &[u8], k: u64, node: u32, end: u32) -> Answer
+    ensures { λ r. ⌜ r ≡ inLeaf (view (now (image .entry))) node (withKey (view (now (image .entry))) k node (before end)) ⌝ }
 {
-    if after == 0 {
+    if end == 0 {
         return Answer::Absent(node);
     }
-    if key_of(image, node, after - 1) == k {
-        return Answer::Found(node, after - 1);
+    if key_of(image, node, end - 1) == k {
+        return Answer::Found(node, end - 1);
     }
     Answer::Absent(node)
 }
@@ -41,7 +41,7 @@ fn in_leaf(image: &[u8], k: u64, node: u32, after: u32) -> Answer
 // From the root down, in each index node by the highest pointer key not above k.
 pub fn descend(image: &[u8], k: u64) -> Lookup
     requires { ⌜ Searchable (view (now image)) ⌝ }
-    ensures { λ r. ⌜ r ≡ searched (view (now (image .entry))) k ⌝ }
+    ensures { λ r. ⌜ r ≡ descentOf (view (now (image .entry))) k ⌝ }
 {
     let depth = be16(image, 14);
     let mut nodes = [0u32; 8];
@@ -55,16 +55,16 @@ pub fn descend(image: &[u8], k: u64) -> Lookup
     while len < depth {
         let halved = halve(image, node, k);
         compared += halved.compared;
-        let after = halved.after;
-        if after == 0 {
+        let end = halved.end;
+        if end == 0 {
             return absent(nodes, len, node, compared);
         }
-        node = child_of(image, node, after - 1);
+        node = child_of(image, node, end - 1);
         nodes[len as usize] = node;
         len += 1;
     }
     let halved = halve(image, node, k);
-    let answer = in_leaf(image, k, node, halved.after);
+    let answer = in_leaf(image, k, node, halved.end);
     let path = Path { nodes, len };
     Lookup {
         answer,

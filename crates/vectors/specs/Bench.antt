@@ -7,17 +7,12 @@ use Prim.Native.Nat.{ℕ, _+_, _*_}
 use lib.IntN.{ℤ, negsuc}
 use lib.ListN.{replicate, set}
 use Rattle.btree.specs.Walk.{fails}
-use Rattle.btree.specs.declared.Lookup.{Lookup}
-use Rattle.btree.specs.Numbers.{lookupReply}
+use Rattle.btree.specs.Numbers.{lookupNumbers}
 use Rattle.btree.specs.Halving.{halved}
 use Rattle.formats.specs.declared.key.Key.{Key}
 use Rattle.formats.specs.Key.{Lawful, packed, compared, asked}
 use Rattle.extents.specs.Reader.{verdict, lookedUp}
 use Rattle.vectors.specs.Build.{keyBytes, E1, L1, twoLeaves, twoLeavesUnder, threeLevelsUnder}
-
--- the numbers of a reply, the keys compared, and the search path beside it
-abbrev pub numbersOf : Lookup → List ℕ
-numbersOf r = lookupReply (r .answer) .number ∷ lookupReply (r .answer) .place ∷ lookupReply (r .answer) .entry ∷ r .compared ∷ r .path .len ∷ r .path .nodes
 
 -- a question about an image, and what the paper says to it
 pub data Asks : Type 0 where
@@ -30,7 +25,7 @@ pub data Asks : Type 0 where
   -- a key's packed number, and how it compares with another; of no image
   packs : Key → ℕ → Asks
   compares : Key → Key → ℤ → Asks
-  -- halving among so many records, whose keys are 10, 20 and so on, for a key: after how many it ends, and how many it compared; of no image
+  -- halving among so many records, whose keys are 10, 20 and so on, for a key: where it ends, after how many, and how many it compared; of no image
   halves : ℕ → ℕ → ℕ → ℕ → Asks
 
 pub record Case : Type 0 where
@@ -39,11 +34,11 @@ pub record Case : Type 0 where
 
 abbrev pub Says : List ℕ → Asks → Type 0
 Says img (check number place) = verdict img ≡ fails number place
-Says img (look k numbers) = numbersOf (lookedUp img k) ≡ numbers
-Says img (lookAny numbers) = (file fork start : ℕ) → Lawful fork → numbersOf (lookedUp img (asked file fork start)) ≡ numbers
+Says img (look k numbers) = lookupNumbers (lookedUp img k) ≡ numbers
+Says img (lookAny numbers) = (file fork start : ℕ) → Lawful fork → lookupNumbers (lookedUp img (asked file fork start)) ≡ numbers
 Says img (packs k n) = packed k ≡ n
 Says img (compares a b z) = compared a b ≡ z
-Says img (halves count k after keys) = halved (λ i. i * 10 + 10) k count ≡ record { after = after; compared = keys }
+Says img (halves count k end keys) = halved (λ i. i * 10 + 10) k count ≡ record { end = end; compared = keys }
 
 abbrev pub Right : Case → Type 0
 Right c = Says (c .image) (c .asks)

@@ -1,8 +1,9 @@
 -- `hfs_lookup` meets its contract. Assumes nothing.
 use mathlib.Core.Path.{ap, _∙_}
 use Rattle.btree.specs.declared.Lookup.{Lookup}
+use Rattle.btree.specs.Numbers.{lookupNumbers}
 use Rattle.extents.specs.Reader.{foundPart}
-use Rattle.capi.specs.Written.{lookupNumbers, dataBytes}
+use Rattle.capi.specs.Written.{dataBytes}
 use borrow.Author.Needs.{needs}
 use Rattle.capi.proofs.hfs_lookup.Statement.{statement}
 use Rattle.capi.proofs.hfs_lookup.Tie as tie

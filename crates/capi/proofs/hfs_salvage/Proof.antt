@@ -1,9 +1,9 @@
 -- `hfs_salvage` meets its contract. Assumes nothing.
 use mathlib.Core.Path.{ap, _∙_}
 use Rattle.btree.specs.declared.Salvage.{Salvage}
-use Rattle.btree.specs.Numbers.{salvageReply}
+use Rattle.btree.specs.Numbers.{salvageReply, replyNumbers}
 use Rattle.extents.specs.Reader.{seenPart}
-use Rattle.capi.specs.Written.{replyNumbers, dataBytes}
+use Rattle.capi.specs.Written.{dataBytes}
 use borrow.Author.Needs.{needs}
 use Rattle.capi.proofs.hfs_salvage.Statement.{statement}
 use Rattle.capi.proofs.hfs_salvage.Tie as tie

@@ -1,5 +1,5 @@
 -- `lookup` meets its contract. Assumes nothing.
-use Rattle.btree.specs.Search.{refused, searched}
+use Rattle.btree.specs.Search.{refused, descentOf}
 use Rattle.extents.proofs.Demands.{lookup-unlawful, lookup-refused, lookup-answers, answered}
 use native.Mathlib.Omega.{arith}
 use mathlib.Core.Path.{sym, ap, _∙_}
@@ -65,7 +65,7 @@ returns-3 c = let n = c .before .before in
     let s = w .before .before in
     let b = bytes (w .before) in
     answered (s .args .image .now) b _ (asked-inRange s) _
-    (c .descend .ensures ∙ ap (searched (view (s .args .image .now))) (c .before .pack .ensures .0)
+    (c .descend .ensures ∙ ap (descentOf (view (s .args .image .now))) (c .before .pack .ensures .0)
     ∙ sym (lookup-answers _ b _ (asked-inRange s) (lawful (t .before)) (sym (ap (λ (x : Verdict). x .number) (t .check .ensures .0)) ∙ n .if2 .left)))
 
 pub lookup-spec : {M : Type 1} → statement M

@@ -7,7 +7,7 @@ use Rattle.search.proofs.descent.in_leaf.Statement.{statement}
 use Rattle.search.proofs.descent.in_leaf.Tie as tie
 
 returns : tie.Need-returns
-returns c = let a = c .before .before .args in leaf-none (view (a .image .now)) (a .k) (a .node) (a .after) (c .if1 .taken)
+returns c = let a = c .before .before .args in leaf-none (view (a .image .now)) (a .k) (a .node) (a .end) (c .if1 .taken)
 
 sub-key-of : tie.Need-sub-key-of
 sub-key-of c = search needs
@@ -20,11 +20,11 @@ sub-t8 c = search needs
 
 returns-2 : tie.Need-returns-2
 returns-2 c = let a = c .before .before .before .before .args in
-    leaf-has (view (a .image .now)) (a .k) (a .node) (a .after) (c .before .before .if1 .left) (sym (c .before .key-of .ensures .0) ∙ c .if2 .taken)
+    leaf-has (view (a .image .now)) (a .k) (a .node) (a .end) (c .before .before .if1 .left) (sym (c .before .key-of .ensures .0) ∙ c .if2 .taken)
 
 returns-3 : tie.Need-returns-3
 returns-3 c = let a = c .before .before .before .before .args in
-    leaf-other (view (a .image .now)) (a .k) (a .node) (a .after) (c .before .before .if1 .left) (λ e. c .if2 .left (c .before .key-of .ensures .0 ∙ e))
+    leaf-other (view (a .image .now)) (a .k) (a .node) (a .end) (c .before .before .if1 .left) (λ e. c .if2 .left (c .before .key-of .ensures .0 ∙ e))
 
 pub in-leaf-spec : {M : Type 1} → statement M
 in-leaf-spec = tie.close (tie.spec returns sub-key-of key-of-requires sub-t8 returns-2 returns-3)
