@@ -11,11 +11,11 @@ use lib.ListN.{length}
 use Rattle.btree.specs.declared.Halved.{Halved}
 use Rattle.btree.specs.Decide.{cond}
 use Rattle.btree.specs.Tree.{View, OnLevel, SoundTree}
-use Rattle.btree.specs.Halving.{oneMore, halving, halvedFrom, halved, before}
+use Rattle.btree.specs.Halving.{comparedOnce, halving, halvedFrom, halved, before}
 use Rattle.btree.specs.Search.{Highest, highestOf, pathOf, recordWith, halvedIn, halvedTo, withKey, comparedOf}
 use Rattle.btree.proofs.Decisions.{cond-yes, cond-no}
 use Rattle.btree.proofs.Lists.{summed-most}
-use Rattle.btree.proofs.Ascending.{up-to, one-key}
+use Rattle.btree.proofs.KeysAscend.{up-to, one-key}
 use Rattle.btree.proofs.Leaves.{keys-mono}
 use Rattle.btree.proofs.Paths.{highest-some, highest-none, highest-at, path-on}
 use Rattle.btree.proofs.Answers.{with-some, with-none}
@@ -40,22 +40,22 @@ module _ (key : ℕ → ℕ) (k : ℕ) where
   halved-end i (suc n) e = absurd (omega arith)
 
   -- on after the middle one, or before it
-  pub halved-after : (i n : ℕ) → 0 < n → key (i + n / 2) ≤ k → halvedFrom key k i n ≡ oneMore (halvedFrom key k (i + n / 2 + 1) (n - n / 2 - 1))
+  pub halved-after : (i n : ℕ) → 0 < n → key (i + n / 2) ≤ k → halvedFrom key k i n ≡ comparedOnce (halvedFrom key k (i + n / 2 + 1) (n - n / 2 - 1))
   unfolding halving
   halved-after i zero p h = absurd (omega arith)
   halved-after i (suc n) p h =
-      ap oneMore (cond-yes (decLe (key (i + suc n / 2)) k) _ _ h ∙ enough n (suc n - suc n / 2 - 1) (i + suc n / 2 + 1) (suc n - suc n / 2 - 1) (omega arith) (omega arith))
+      ap comparedOnce (cond-yes (decLe (key (i + suc n / 2)) k) _ _ h ∙ enough n (suc n - suc n / 2 - 1) (i + suc n / 2 + 1) (suc n - suc n / 2 - 1) (omega arith) (omega arith))
 
-  pub halved-before : (i n : ℕ) → 0 < n → k < key (i + n / 2) → halvedFrom key k i n ≡ oneMore (halvedFrom key k i (n / 2))
+  pub halved-before : (i n : ℕ) → 0 < n → k < key (i + n / 2) → halvedFrom key k i n ≡ comparedOnce (halvedFrom key k i (n / 2))
   unfolding halving
   halved-before i zero p h = absurd (omega arith)
   halved-before i (suc n) p h =
-      ap oneMore (cond-no (decLe (key (i + suc n / 2)) k) _ _ (λ q. omega arith) ∙ enough n (suc n / 2) i (suc n / 2) (omega arith) (omega arith))
+      ap comparedOnce (cond-no (decLe (key (i + suc n / 2)) k) _ _ (λ q. omega arith) ∙ enough n (suc n / 2) i (suc n / 2) (omega arith) (omega arith))
 
   -- what holds where none is left, and before a step where it holds after it, holds of halving
   module _ (P : ℕ → ℕ → Halved → Type 0) (ends : (i : ℕ) → P i 0 (record { end = i; compared = 0 }))
-      (after : (i n : ℕ) (r : Halved) → 0 < n → key (i + n / 2) ≤ k → P (i + n / 2 + 1) (n - n / 2 - 1) r → P i n (oneMore r))
-      (earlier : (i n : ℕ) (r : Halved) → 0 < n → k < key (i + n / 2) → P i (n / 2) r → P i n (oneMore r)) where
+      (after : (i n : ℕ) (r : Halved) → 0 < n → key (i + n / 2) ≤ k → P (i + n / 2 + 1) (n - n / 2 - 1) r → P i n (comparedOnce r))
+      (earlier : (i n : ℕ) (r : Halved) → 0 < n → k < key (i + n / 2) → P i (n / 2) r → P i n (comparedOnce r)) where
     by-steps : (f i n : ℕ) → n ≤ f → P i n (halving key k f i n)
     unfolding halving
     by-steps zero i zero a = ends i
@@ -64,7 +64,7 @@ module _ (key : ℕ → ℕ) (k : ℕ) where
     by-steps (suc f) i (suc n) a =
         go (decLe (key (i + suc n / 2)) k) (by-steps f (i + suc n / 2 + 1) (suc n - suc n / 2 - 1) (omega arith)) (by-steps f i (suc n / 2) (omega arith))
       where
-        go : {x y : Halved} (q : Dec (key (i + suc n / 2) ≤ k)) → P (i + suc n / 2 + 1) (suc n - suc n / 2 - 1) x → P i (suc n / 2) y → P i (suc n) (oneMore (cond q x y))
+        go : {x y : Halved} (q : Dec (key (i + suc n / 2) ≤ k)) → P (i + suc n / 2 + 1) (suc n - suc n / 2 - 1) x → P i (suc n / 2) y → P i (suc n) (comparedOnce (cond q x y))
         go (yes p) x y = after i (suc n) _ (omega arith) p x
         go (no p) x y = earlier i (suc n) _ (omega arith) (omega arith) y
 
@@ -103,7 +103,7 @@ module _ (key : ℕ → ℕ) (k : ℕ) where
 
   -- where the keys of n records ascend, those before the end are not above k, and the others are
   module _ (n : ℕ) (up : (i j : ℕ) → i < j → j < n → key i < key j) where
-    -- the records outside those left are on the right side of k
+    -- the records before those left are not above k, and those after them are
     pub record Apart (first end : ℕ) : Type 0 where
       pub low : (i : ℕ) → i < first → i < n → key i ≤ k
       pub high : (i : ℕ) → end ≤ i → i < n → k < key i
@@ -172,7 +172,7 @@ module _ (v : View) (s : SoundTree v) (k d n : ℕ) (o : OnLevel v d n) where
   pub halved-leaf : withKey v k n (halvedTo v k n) ≡ recordWith v n k 0 (count n)
   halved-leaf = halved-with v k n (λ i j. keys-mono v s d n i j o)
 
--- where no node of the tree has 2 ^ b records, a search compares at most b keys for each node of its path
+-- where every node of the tree has fewer than 2 ^ b records, a search compares at most b keys for each node of its path
 pub compared-few : (v : View) (k b : ℕ) → ((d n : ℕ) → OnLevel v d n → v .count n < 2 ^ b) → comparedOf v k ≤ b * length (pathOf v k)
 unfolding halvedIn
 compared-few v k b h = summed-most _ b (pathOf v k) (λ n m. let (d, o) = path-on v k n m in few (v .key n) k (v .count n) b (h d n o))

@@ -6,21 +6,22 @@ use native.Mathlib.Decide.{decLe}
 use Rattle.btree.specs.declared.Halved.{Halved}
 use Rattle.btree.specs.Decide.{cond}
 
--- with one comparison more
-abbrev pub oneMore : Halved → Halved
-oneMore r = record { end = r .end; compared = suc (r .compared) }
+-- one key compared, and then what r comes to
+abbrev pub comparedOnce : Halved → Halved
+comparedOnce r = record { end = r .end; compared = suc (r .compared) }
 
 -- Of n records left, of which i is the first: "it compares the middle one of those left (of two, the later), and goes on after it if its key is not above
--- the asked one, else before it, until none is left". Each step leaves fewer, so as many steps as records are enough.
+-- the asked one, else before it, until none is left". At most so many steps are made; each leaves fewer, so as many as records are enough.
 unfoldable pub halving : (ℕ → ℕ) → ℕ → ℕ → ℕ → ℕ → Halved
 halving key k zero i n = record { end = i; compared = 0 }
 halving key k (suc steps) i zero = record { end = i; compared = 0 }
 halving key k (suc steps) i (suc n) =
-    oneMore
+    comparedOnce
     (cond (decLe (key (i + suc n / 2)) k)
     (halving key k steps (i + suc n / 2 + 1) (suc n - suc n / 2 - 1))
     (halving key k steps i (suc n / 2)))
 
+-- with as many steps as records
 abbrev pub halvedFrom : (ℕ → ℕ) → ℕ → ℕ → ℕ → Halved
 halvedFrom key k i n = halving key k n i n
 

@@ -1,4 +1,4 @@
--- Demand 3, in the words of the rules, the leaf records and the search path.
+-- Demand 3, in the words of the rules, the leaf records, the search path and the keys compared.
 -- Assumes nothing.
 use mathlib.Core.Path.{_≡_}
 use mathlib.Core.Logic.{_↔_}

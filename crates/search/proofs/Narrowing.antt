@@ -10,7 +10,7 @@ use native.Mathlib.Decide.{ℕ-discrete}
 use Rattle.btree.specs.declared.Answer.the-variants.{Found, Absent}
 use Rattle.btree.specs.declared.Halved.{Halved}
 use Rattle.btree.specs.Tree.{View}
-use Rattle.btree.specs.Halving.{oneMore, halvedFrom, halved, before}
+use Rattle.btree.specs.Halving.{comparedOnce, halvedFrom, halved, before}
 use Rattle.btree.specs.Search.{inLeaf, withKey}
 use Rattle.btree.proofs.Decisions.{cond-yes, cond-no}
 use Rattle.btree.proofs.Halving.{halved-end, halved-after, halved-before}
@@ -31,7 +31,7 @@ module _ (key : ℕ → ℕ) (k c : ℕ) where
   module _ (low high compared : ℕ) (l : Narrowed low high compared) where
     -- a step to other bounds
     on-to : (low′ high′ : ℕ) → low′ ≤ high′ → high′ ≤ c → compared + 1 + (high′ - low′) ≤ c
-        → halvedFrom key k low (high - low) ≡ oneMore (halvedFrom key k low′ (high′ - low′)) → Narrowed low′ high′ (compared + 1)
+        → halvedFrom key k low (high - low) ≡ comparedOnce (halvedFrom key k low′ (high′ - low′)) → Narrowed low′ high′ (compared + 1)
     on-to low′ high′ o i t e =
         record {
           order = o;
@@ -41,7 +41,7 @@ module _ (key : ℕ → ℕ) (k c : ℕ) where
           counts = let q = ap (λ (r : Halved). r .compared) e in let w = l .counts in omega arith;
         }
 
-    -- the middle one, oneMore from the first
+    -- the middle one, counted from the first left
     from-low : low < high → (low + high) / 2 ≡ low + (high - low) / 2
     from-low h = omega arith
 

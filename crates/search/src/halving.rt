@@ -7,7 +7,7 @@ use btree::Halved;
 use formats::records::key_of;
 use hfs::node::count_of;
 
-// By halving: as long as records are left, those from low on and before high, on after the middle one or before it. The bound is for a sum over nodes.
+// By halving: as long as records are left, those from low on and before high, on after the middle one or before it. The bound keeps a sum over eight nodes in range.
 pub fn halve(image: &[u8], node: u32, k: u64) -> Halved
     ensures { λ r. ⌜ (r ≡ halvedIn (view (now (image .entry))) k node) × (r .compared < 65536) ⌝ }
 {

@@ -25,7 +25,7 @@ pub data Asks : Type 0 where
   -- a key's packed number, and how it compares with another; of no image
   packs : Key → ℕ → Asks
   compares : Key → Key → ℤ → Asks
-  -- halving among so many records, whose keys are 10, 20 and so on, for a key: where it ends, after how many, and how many it compared; of no image
+  -- halving among so many records, whose keys are 10, 20 and so on, for a key: after how many records it ends, and how many keys it compared; of no image
   halves : ℕ → ℕ → ℕ → ℕ → Asks
 
 pub record Case : Type 0 where
