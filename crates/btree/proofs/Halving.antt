@@ -101,13 +101,13 @@ module _ (key : ℕ → ℕ) (k : ℕ) where
           below (yes l) = let q = f c l in absurd (omega arith)
           below (no l) = omega arith
 
-  -- where the keys of n records ascend, those before the end are not above k, and the others are
   module _ (n : ℕ) (up : (i j : ℕ) → i < j → j < n → key i < key j) where
     -- the records before those left are not above k, and those after them are
     pub record Apart (first end : ℕ) : Type 0 where
       pub low : (i : ℕ) → i < first → i < n → key i ≤ k
       pub high : (i : ℕ) → end ≤ i → i < n → k < key i
 
+    -- where the keys of n records ascend, those before the end are not above k, and the others are
     pub halved-apart : Apart (halved key k n .end) (halved key k n .end)
     halved-apart =
         by-halving (λ i m r. i + m ≤ n → Apart i (i + m) → Apart (r .end) (r .end)) (λ i l a. record { low = a .low; high = λ j u w. a .high j (omega arith) w })

@@ -13,33 +13,35 @@ use Rattle.btree.specs.Tree.{View}
 use Rattle.btree.specs.Halving.{comparedOnce, halvedFrom, halved, before}
 use Rattle.btree.specs.Search.{inLeaf, withKey}
 use Rattle.btree.proofs.Decisions.{cond-yes, cond-no}
-use Rattle.btree.proofs.Halving.{halved-end, halved-after, halved-before}
+use Rattle.btree.proofs.Halving.{halved-end, halved-after, halved-before, few}
 
 module _ (key : ℕ → ℕ) (k c : ℕ) where
   -- what is left of c records, and the keys compared so far, give what all give
   pub record Narrowed (low high compared : ℕ) : Type 0 where
     pub order : low ≤ high
     pub inside : high ≤ c
-    pub tally : compared + (high - low) ≤ c
     pub ends : halvedFrom key k low (high - low) .end ≡ halved key k c .end
     pub counts : compared + halvedFrom key k low (high - low) .compared ≡ halved key k c .compared
 
   pub narrowed-start : Narrowed 0 c 0
   unfolding halved
-  narrowed-start = record { order = omega arith; inside = omega arith; tally = omega arith; ends = rw (sub-zero c); counts = rw (sub-zero c) (omega arith) }
+  narrowed-start = record { order = omega arith; inside = omega arith; ends = rw (sub-zero c); counts = rw (sub-zero c) (omega arith) }
 
   module _ (low high compared : ℕ) (l : Narrowed low high compared) where
     -- a step to other bounds
-    on-to : (low′ high′ : ℕ) → low′ ≤ high′ → high′ ≤ c → compared + 1 + (high′ - low′) ≤ c
+    on-to : (low′ high′ : ℕ) → low′ ≤ high′ → high′ ≤ c
         → halvedFrom key k low (high - low) ≡ comparedOnce (halvedFrom key k low′ (high′ - low′)) → Narrowed low′ high′ (compared + 1)
-    on-to low′ high′ o i t e =
+    on-to low′ high′ o i e =
         record {
           order = o;
           inside = i;
-          tally = t;
           ends = sym (ap (λ (r : Halved). r .end) e) ∙ l .ends;
           counts = let q = ap (λ (r : Halved). r .compared) e in let w = l .counts in omega arith;
         }
+
+    -- a count of 16 bits has at most 16 binary digits
+    pub narrowed-few : c < 65536 → compared ≤ 16
+    narrowed-few h = let f = few key k c 16 h in let w = l .counts in omega arith
 
     -- the middle one, counted from the first left
     from-low : low < high → (low + high) / 2 ≡ low + (high - low) / 2
@@ -48,17 +50,15 @@ module _ (key : ℕ → ℕ) (k c : ℕ) where
     pub narrowed-after : (x : ℕ) → low < high → x ≡ key ((low + high) / 2) → x ≤ k → Narrowed ((low + high) / 2 + 1) high (compared + 1)
     narrowed-after x h is u =
         let m = from-low h in
-        let t = l .tally in
         let e : high - ((low + high) / 2 + 1) ≡ high - low - (high - low) / 2 - 1 = omega arith in
-        on-to ((low + high) / 2 + 1) high (omega arith) (l .inside) (omega arith) (rw (e, m) (halved-after key k low (high - low) (omega arith) (rw (is, m) at u)))
+        on-to ((low + high) / 2 + 1) high (omega arith) (l .inside) (rw (e, m) (halved-after key k low (high - low) (omega arith) (rw (is, m) at u)))
 
     pub narrowed-before : (x : ℕ) → low < high → x ≡ key ((low + high) / 2) → k < x → Narrowed low ((low + high) / 2) (compared + 1)
     narrowed-before x h is u =
         let m = from-low h in
-        let t = l .tally in
         let i = l .inside in
         let e : (low + high) / 2 - low ≡ (high - low) / 2 = omega arith in
-        on-to low ((low + high) / 2) (omega arith) (omega arith) (omega arith) (rw e (halved-before key k low (high - low) (omega arith) (rw (is, m) at u)))
+        on-to low ((low + high) / 2) (omega arith) (omega arith) (rw e (halved-before key k low (high - low) (omega arith) (rw (is, m) at u)))
 
     pub narrowed-end : high ≤ low → record { end = low; compared = compared } ≡ halved key k c
     narrowed-end h =

@@ -67,7 +67,7 @@ module _ (v : View) (k : ℕ) where
     pub size : len + length (pathTail (depth - len) node) ≡ length (pathAt v depth k)
     pub answer : answerFrom v (depth - len) k node ≡ answerAt v depth k
     pub tally : compared + comparedIn v k (node ∷ pathTail (depth - len) node) ≡ comparedIn v k (pathAt v depth k)
-    pub low : compared ≤ 65536 * (len - 1)
+    pub low : compared ≤ 16 * (len - 1)
 
   pub stored-none : v .depth ≡ 0 → stoppedAt (replicate 8 0) 0 0 0 ≡ descentOf v k
   stored-none e = rw e
@@ -101,7 +101,7 @@ module _ (v : View) (k : ℕ) where
     same-count = ap (λ (x : Halved). x .compared) is
 
     -- on to the child of the record before the end
-    pub stored-child : len < depth → r .end ≢ 0 → r .compared < 65536 → Stored depth (set nodes len (child node (r .end - 1))) (child node (r .end - 1)) (len + 1) (compared + r .compared)
+    pub stored-child : len < depth → r .end ≢ 0 → r .compared ≤ 16 → Stored depth (set nodes len (child node (r .end - 1))) (child node (r .end - 1)) (len + 1) (compared + r .compared)
     stored-child l z few =
         let i = r .end - 1 in
         let e = pointer (some i) (before-some (r .end) z) in

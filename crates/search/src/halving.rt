@@ -1,6 +1,6 @@
 // Where among a node's records a key belongs.
 ghost use mathlib.Core.Path.{_≡_};
-ghost use Prim.Native.Nat.{_<_};
+ghost use Prim.Native.Nat.{_≤_};
 ghost use Rattle.btree.specs.Search.{halvedIn};
 ghost use Rattle.formats.specs.Format.{view};
 use btree::Halved;
@@ -9,7 +9,7 @@ use hfs::node::count_of;
 
 // By halving: as long as records are left, those from low on and before high, on after the middle one or before it. The bound keeps a sum over eight nodes in range.
 pub fn halve(image: &[u8], node: u32, k: u64) -> Halved
-    ensures { λ r. ⌜ (r ≡ halvedIn (view (now (image .entry))) k node) × (r .compared < 65536) ⌝ }
+    ensures { λ r. ⌜ (r ≡ halvedIn (view (now (image .entry))) k node) × (r .compared ≤ 16) ⌝ }
 {
     let mut low: u32 = 0;
     let mut high = count_of(image, node);

@@ -4,7 +4,7 @@ use native.Mathlib.Omega.{arith}
 use Rattle.btree.specs.Header.{viewOf}
 use Rattle.btree.specs.Search.{halvedIn}
 use Rattle.formats.specs.Format.{view}
-use Rattle.search.proofs.Narrowing.{Narrowed, narrowed-start, narrowed-after, narrowed-before, narrowed-end}
+use Rattle.search.proofs.Narrowing.{Narrowed, narrowed-start, narrowed-after, narrowed-before, narrowed-few, narrowed-end}
 use borrow.Author.Needs.{needs}
 use Rattle.search.proofs.halving.halve.Statement.{statement}
 use Rattle.search.proofs.halving.halve.Tie as tie
@@ -26,7 +26,7 @@ add-middle : tie.Need-add-middle Inv-loop μ-loop
 add-middle c = search needs
 
 add-compared : tie.Need-add-compared Inv-loop μ-loop
-add-compared c = search needs
+add-compared c = let l = c .before in let f = narrowed-few _ _ _ _ _ _ (l .loop .inv .1) (l .loop .inv .0) in omega arith
 
 key-of-requires : tie.Need-key-of-requires Inv-loop μ-loop
 key-of-requires c κs = search needs
@@ -50,7 +50,7 @@ loop-again-2 c = let l = c .before .before .before in
 
 returns : tie.Need-returns Inv-loop μ-loop
 unfolding halvedIn
-returns c = let i = c .before .loop .inv in (narrowed-end _ _ _ _ _ _ (i .1) (c .loop-test .left), omega (arith, i .0, i .1 .tally))
+returns c = let i = c .before .loop .inv in (narrowed-end _ _ _ _ _ _ (i .1) (c .loop-test .left), narrowed-few _ _ _ _ _ _ (i .1) (i .0))
 
 pub halve-spec : {M : Type 1} → statement M
 halve-spec =
