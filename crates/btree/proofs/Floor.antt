@@ -10,7 +10,7 @@ use native.Mathlib.Decide.{decLe, decLt}
 use lib.ListN.{length}
 use Rattle.btree.specs.Lists.{_∈_, lastOf, fromOption}
 use Rattle.btree.specs.Tree.{View, Rec, below, leavesAt, OnLevel, SoundTree, LeafTotals}
-use Rattle.btree.specs.Search.{leafList, Highest, highestOf, pathFrom, pathAt, pathOf, Floor, AtPathEnd}
+use Rattle.btree.specs.Search.{recordOf, leafList, Highest, highestOf, pathFrom, pathAt, pathOf, Floor, AtPathEnd}
 use Rattle.btree.proofs.Lists.{span-mem}
 use Rattle.btree.proofs.Leaves.{on-root, on-child, keys-mono, keys-le, keys-apart}
 use Rattle.btree.proofs.Paths.{last-push, last-pop, highest-some, highest-none, path-below, path-leaf, leaf-stands, leaf-listed, leafList-once}
@@ -103,33 +103,33 @@ module _ (v : View) (s : SoundTree v) (k : ℕ) where
           go (suc h) e m =
               let q = leaf-stands v s t x a in
               let is = q .isKey in
-              let first = first-least h 0 root (x .node) (x .at) (on-root v (omega arith)) (omega arith) m (q .inside) in
+              let first = first-least h 0 root (x .node) (x .number) (on-root v (omega arith)) (omega arith) m (q .inside) in
               path-down h 0 root (on-root v (omega arith)) (omega arith) (omega arith)
 
       end-floor : (x : Rec) → AtPathEnd v k x → Floor v k x
       end-floor x p =
           let is = p .isKey in
           let b = p .highest in
-          let l = leaf-listed v s t (x .node) (x .at) (path-leaf v s depth k (x .node) (p .whole) (p .ends)) (b .inside) in
+          let l = leaf-listed v s t (x .node) (x .number) (path-leaf v s depth k (x .node) (p .whole) (p .ends)) (b .inside) in
           record {
-            listed = rw is at l;
+            listed = rw (is, p .isOffset) at l;
             notAbove = omega (arith, b .notAbove);
             highest = λ y a u.
                 let q = leaf-stands v s t y a in
                 let own = q .isKey in
-                let r = at depth refl (p .whole) (p .ends) (y .node) (y .at) (q .leaf) (q .inside) (omega arith) in
+                let r = at depth refl (p .whole) (p .ends) (y .node) (y .number) (q .leaf) (q .inside) (omega arith) in
                 omega arith;
           }
         where
           at : (h : ℕ) → depth ≡ h → length (pathAt v h k) ≡ h → lastOf (pathAt v h k) ≡ some (x .node)
-              → (m j : ℕ) → m ∈ leavesAt v h → j < count m → key m j ≤ k → key m j ≤ key (x .node) (x .at)
+              → (m j : ℕ) → m ∈ leavesAt v h → j < count m → key m j ≤ k → key m j ≤ key (x .node) (x .number)
           at zero d w e m j c u le = absurd (List·Memᴰ·not-nil c)
-          at (suc h) d w e m j c u le = highest-below h 0 root (x .node) (x .at) (on-root v (omega arith)) (omega arith) w e (p .highest) m j c u le
+          at (suc h) d w e m j c u le = highest-below h 0 root (x .node) (x .number) (on-root v (omega arith)) (omega arith) w e (p .highest) m j c u le
 
       floor-end : (x : Rec) → Floor v k x → AtPathEnd v k x
       floor-end x f =
           let (w, (m, i, e, b)) = path-whole x (f .listed) (f .notAbove) in
-          let p : AtPathEnd v k (record { node = m; at = i; key = key m i }) = record { whole = w; ends = e; highest = b; isKey = refl } in
+          let p : AtPathEnd v k (recordOf v m i) = record { whole = w; ends = e; highest = b; isOffset = refl; isKey = refl } in
           let y = end-floor _ p in
           let low = f .highest _ (y .listed) (y .notAbove) in
           let high = y .highest x (f .listed) (f .notAbove) in

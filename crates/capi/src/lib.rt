@@ -1,31 +1,39 @@
 // What C and Rust call. Every element that a call is lent to write is written, whatever the answer.
 ghost use mathlib.Core.Path.{_≡_};
+ghost use Rattle.btree.specs.Walk.{fails};
 ghost use Rattle.btree.specs.Numbers.{lookupReply, salvageReply, replyNumbers, lookupNumbers};
 ghost use Rattle.extents.specs.Reader.{verdict, lookedUp, dataPart, foundPart, salvaged, seenPart};
 ghost use Rattle.formats.specs.Key.{asked};
-ghost use Rattle.capi.specs.Written.{verdictNumbers, dataBytes};
+ghost use Rattle.capi.specs.Written.{dataBytes};
 use btree::Answer;
 use btree::Lookup;
+use btree::Place;
 use btree::Salvage;
-use formats::records::record_at;
 use image::bytes::byte_at;
 
-// Number and place.
+fn reply_numbers(number: u32, place: Place) -> [u32; 3]
+    ensures { λ r. ⌜ r ≡ replyNumbers (fails number place) ⌝ }
+{
+    [number, place.node, place.offset]
+}
+
+// Number, node, offset.
 #[no_mangle]
-pub extern "C" fn hfs_check(image: &[u8], out: &mut [u32; 2])
-    ensures { λ _. ⌜ now (out .exit) ≡ verdictNumbers (verdict (now (image .entry))) ⌝ }
+pub extern "C" fn hfs_check(image: &[u8], out: &mut [u32; 3])
+    ensures { λ _. ⌜ now (out .exit) ≡ replyNumbers (verdict (now (image .entry))) ⌝ }
 {
     let t = extents::check(image);
-    *out = [t.number, t.place];
+    let place = t.place;
+    *out = reply_numbers(t.number, place);
 }
 
 fn lookup_reply(answer: Answer) -> [u32; 3]
     ensures { λ r. ⌜ r ≡ replyNumbers (lookupReply answer) ⌝ }
 {
     match answer {
-        Answer::Found(node, i) => [0, node, i],
+        Answer::Found(place) => reply_numbers(0, place),
         Answer::Absent(node) => [12, node, 0],
-        Answer::Refused(number, place) => [number, place, 0],
+        Answer::Refused(number, place) => reply_numbers(number, place),
     }
 }
 
@@ -53,11 +61,11 @@ fn lookup_numbers(found: Lookup) -> [u32; 13]
     ]
 }
 
-// The 12 data bytes of a record.
-fn record_data(image: &[u8], node: u32, i: u32) -> [u8; 12]
-    ensures { λ r. ⌜ r ≡ dataBytes (now (image .entry)) (dataPart (now (image .entry)) node i) ⌝ }
+// The 12 data bytes of the record that starts at a place.
+fn record_data(image: &[u8], place: Place) -> [u8; 12]
+    ensures { λ r. ⌜ r ≡ dataBytes (now (image .entry)) (dataPart place) ⌝ }
 {
-    let at = record_at(image, node, i) + 8;
+    let at = (place.node as usize) * 512 + (place.offset as usize) + 8;
     let mut data = [0; 12];
     let mut k = 0;
     while k < 12 {
@@ -68,16 +76,16 @@ fn record_data(image: &[u8], node: u32, i: u32) -> [u8; 12]
 }
 
 fn found_data(image: &[u8], answer: Answer) -> [u8; 12]
-    ensures { λ r. ⌜ r ≡ dataBytes (now (image .entry)) (foundPart (now (image .entry)) answer) ⌝ }
+    ensures { λ r. ⌜ r ≡ dataBytes (now (image .entry)) (foundPart answer) ⌝ }
 {
     match answer {
-        Answer::Found(node, i) => record_data(image, node, i),
+        Answer::Found(place) => record_data(image, place),
         Answer::Absent(_) => [0; 12],
         Answer::Refused(_, _) => [0; 12],
     }
 }
 
-// Number, node or place, record, keys compared, path length, eight nodes of the path; and the record's data.
+// Number, node, offset, keys compared, path length, eight nodes of the path; and the record's data.
 #[no_mangle]
 pub extern "C" fn hfs_lookup(
     image: &[u8],
@@ -88,7 +96,7 @@ pub extern "C" fn hfs_lookup(
     data: &mut [u8; 12],
 )
     ensures numbers { λ _. ⌜ now (out .exit) ≡ lookupNumbers (lookedUp (now (image .entry)) (asked file fork start)) ⌝ }
-    ensures bytes { λ _. ⌜ now («data» .exit) ≡ dataBytes (now (image .entry)) (foundPart (now (image .entry)) (lookedUp (now (image .entry)) (asked file fork start) .answer)) ⌝ }
+    ensures bytes { λ _. ⌜ now («data» .exit) ≡ dataBytes (now (image .entry)) (foundPart (lookedUp (now (image .entry)) (asked file fork start) .answer)) ⌝ }
 {
     let found = extents::lookup(image, file, fork, start);
     let answer = found.answer;
@@ -100,23 +108,23 @@ fn salvage_reply(seen: Salvage) -> [u32; 3]
     ensures { λ r. ⌜ r ≡ replyNumbers (salvageReply seen) ⌝ }
 {
     match seen {
-        Salvage::Seen(node, i) => [13, node, i],
+        Salvage::Seen(place) => reply_numbers(13, place),
         Salvage::NotSeen => [14, 0, 0],
-        Salvage::Refused(number, place) => [number, place, 0],
+        Salvage::Refused(number, place) => reply_numbers(number, place),
     }
 }
 
 fn seen_data(image: &[u8], seen: Salvage) -> [u8; 12]
-    ensures { λ r. ⌜ r ≡ dataBytes (now (image .entry)) (seenPart (now (image .entry)) seen) ⌝ }
+    ensures { λ r. ⌜ r ≡ dataBytes (now (image .entry)) (seenPart seen) ⌝ }
 {
     match seen {
-        Salvage::Seen(node, i) => record_data(image, node, i),
+        Salvage::Seen(place) => record_data(image, place),
         Salvage::NotSeen => [0; 12],
         Salvage::Refused(_, _) => [0; 12],
     }
 }
 
-// Number, node or place, record; and the record's data.
+// Number, node, offset; and the record's data.
 #[no_mangle]
 pub extern "C" fn hfs_salvage(
     image: &[u8],
@@ -127,7 +135,7 @@ pub extern "C" fn hfs_salvage(
     data: &mut [u8; 12],
 )
     ensures numbers { λ _. ⌜ now (out .exit) ≡ replyNumbers (salvageReply (salvaged (now (image .entry)) (asked file fork start))) ⌝ }
-    ensures bytes { λ _. ⌜ now («data» .exit) ≡ dataBytes (now (image .entry)) (seenPart (now (image .entry)) (salvaged (now (image .entry)) (asked file fork start))) ⌝ }
+    ensures bytes { λ _. ⌜ now («data» .exit) ≡ dataBytes (now (image .entry)) (seenPart (salvaged (now (image .entry)) (asked file fork start))) ⌝ }
 {
     let seen = extents::salvage(image, file, fork, start);
     *out = salvage_reply(seen);

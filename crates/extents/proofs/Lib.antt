@@ -3,6 +3,7 @@ pub mod Framing
 pub mod Levels
 pub mod Pointers
 pub mod Parts
+pub mod Starts
 pub mod Compared
 pub mod Demands
 pub mod Matches

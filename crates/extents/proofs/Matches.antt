@@ -1,18 +1,22 @@
 -- What salvage says: the first match, or that there is none.
 -- Assumes nothing.
-use mathlib.Core.Path.{_≡_, _∙_}
+use mathlib.Core.Path.{_≡_, subst, _∙_}
 use mathlib.Core.Logic.{_↔_}
 use mathlib.Core.List.{List}
 use Prim.Native.Nat.{ℕ, _+_, _-_, _/_, _<_, _≤_}
 use native.Mathlib.Omega.{arith}
 use native.Mathlib.Decide.{decLe}
 use lib.ListN.{length}
+use Rattle.btree.specs.declared.Place.{Place}
 use Rattle.btree.specs.declared.Salvage.{Salvage}
 use Rattle.btree.specs.declared.Salvage.the-variants.{Seen, Refused}
+use Rattle.btree.specs.Places.{imageStart, imageOffset, recordPlace}
+use Rattle.btree.specs.Header.{viewOf}
 use Rattle.btree.proofs.Decisions.{cond-yes, cond-no}
+use Rattle.hfs.specs.Hfs.{hfs}
 use Rattle.formats.specs.declared.key.Key.{Key}
 use Rattle.formats.specs.Key.{Lawful, decLawful, packed, keyAt}
-use Rattle.formats.specs.Format.{keyOf, recordAt, dataAt}
+use Rattle.formats.specs.Format.{recordAt, dataAt, view}
 use Rattle.formats.proofs.Sizes.{record-inside}
 use Rattle.formats.proofs.Order.{InRange, Bytes, packed-same, key-range}
 use Rattle.search.specs.Seen.{seenFrom}
@@ -21,11 +25,11 @@ use Rattle.extents.specs.Reader.{salvaged}
 use Rattle.extents.specs.Salvage.{Match, Searched, SalvageSays}
 
 module _ (img : List ℕ) (k : Key) where
-  pub salvage-unlawful : (Lawful (k .fork) → ⊥) → salvaged img k ≡ Refused 11 0
+  pub salvage-unlawful : (Lawful (k .fork) → ⊥) → salvaged img k ≡ Refused 11 imageStart
   unfolding salvaged
   salvage-unlawful n = cond-no (decLawful (k .fork)) _ _ n
 
-  pub salvage-long : Lawful (k .fork) → 3072000 < length img → salvaged img k ≡ Refused 1 0
+  pub salvage-long : Lawful (k .fork) → 3072000 < length img → salvaged img k ≡ Refused 1 imageStart
   unfolding salvaged
   salvage-long l h = cond-yes (decLawful (k .fork)) _ _ l ∙ cond-no (decLe (length img) 3072000) _ _ (λ z. omega arith)
 
@@ -35,7 +39,7 @@ module _ (img : List ℕ) (k : Key) where
 
   -- a match, by the packed key
   pub match-same : Bytes img → InRange k → (n i : ℕ) → Match img k n i ↔ ((1 ≤ n) × (n < length img / 512) × Has img (packed k) n i)
-  unfolding keyOf
+  unfolding viewOf
   match-same b r n i =
       let e = packed-same (keyAt img (recordAt img n i)) k (key-range img b (recordAt img n i)) r in (
         λ m. (m .afterHeader, m .complete, record { counts = m .counts; inside = m .inside; isKey = e .0 (m .isKey) }),
@@ -47,7 +51,7 @@ module _ (img : List ℕ) (k : Key) where
       record {
         unlawful = salvage-unlawful;
         long = salvage-long;
-        seen = λ s n i. rw (salvage-searched s) (seen-iff img (packed k) (length img / 512) (Match img k) (match-same b r) n i);
+        seen = λ s p. rw (salvage-searched s) (seen-iff img (packed k) (length img / 512) (Match img k) (match-same b r) p);
         notSeen = λ s. rw (salvage-searched s) (notSeen-iff img (packed k) (length img / 512) (Match img k) (match-same b r));
       }
 
@@ -56,14 +60,18 @@ module _ (img : List ℕ) (k : Key) where
   salvage-both b q r e = (e, rw e (salvage-says b q))
 
   -- what is seen is a match
-  pub seen-match : (r : Salvage) → SalvageSays img k r → (n i : ℕ) → r ≡ Seen n i → Match img k n i
-  seen-match r s n i e = go (decLawful (k .fork)) (decLe (length img) 3072000)
+  pub seen-match : (r : Salvage) → SalvageSays img k r → (p : Place) → r ≡ Seen p → (n : ℕ) × (i : ℕ) × Match img k n i × (recordPlace (view img) n i ≡ p)
+  seen-match r s p e = go (decLawful (k .fork)) (decLe (length img) 3072000)
     where
-      go : Dec (Lawful (k .fork)) → Dec (length img ≤ 3072000) → Match img k n i
+      go : Dec (Lawful (k .fork)) → Dec (length img ≤ 3072000) → (n : ℕ) × (i : ℕ) × Match img k n i × (recordPlace (view img) n i ≡ p)
       go (no n) q = let x = s .unlawful n in absurd (let z : _≡_ {A = ℕ} 0 1 = cc in omega arith)
       go (yes l) (no q) = let x = s .long l (omega arith) in absurd (let z : _≡_ {A = ℕ} 0 1 = cc in omega arith)
-      go (yes l) (yes q) = s .seen (record { lawful = l; few = q }) n i .0 e .here
+      go (yes l) (yes q) = let (n, i, f, w) = s .seen (record { lawful = l; few = q }) p .0 e in (n, i, f .here, w)
 
   -- its data lies in the image
-  pub match-inside : (n i : ℕ) → Match img k n i → dataAt img n i + 12 ≤ length img
-  match-inside n i m = let b = m .complete in record-inside img n i (m .counts .records) (omega arith) (m .inside)
+  pub seen-inside : (r : Salvage) → SalvageSays img k r → (p : Place) → r ≡ Seen p → dataAt (imageOffset hfs p) + 12 ≤ length img
+  unfolding viewOf
+  seen-inside r s p e =
+      let (n, i, m, q) = seen-match r s p e in
+      let b = m .complete in
+      subst (λ (o : Place). dataAt (imageOffset hfs o) + 12 ≤ length img) q (record-inside img n i (m .counts .records) (omega arith) (m .inside))

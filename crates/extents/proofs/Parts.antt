@@ -11,7 +11,7 @@ use Rattle.btree.specs.Header.{depthOf, totalOf, countOf, viewOf}
 use Rattle.btree.proofs.MapBits.{node-inside}
 use Rattle.hfs.specs.Hfs.{hfs}
 use Rattle.hfs.proofs.Hfs.{fits}
-use Rattle.formats.specs.Format.{leafKind, dataAt, Records, view}
+use Rattle.formats.specs.Format.{leafKind, recordAt, dataAt, Records, view}
 use Rattle.extents.specs.Reader.{Sound}
 use Rattle.formats.proofs.Sizes.{record-inside}
 use Rattle.extents.proofs.Levels.{levels-iff}
@@ -35,7 +35,7 @@ module _ (img : List ℕ) (s : Sound img) where
       let v = levels-iff img .0 (s .nodes) in
       (rw (v .leaves h n o .1 (omega arith)) at (v .records h n o), s .tree .inRange h n o)
 
-  pub leaf-inside : (n i : ℕ) → n ∈ leavesAt (view img) (view img .depth) → i < countOf hfs img n → dataAt img n i + 12 ≤ length img
+  pub leaf-inside : (n i : ℕ) → n ∈ leavesAt (view img) (view img .depth) → i < countOf hfs img n → dataAt (recordAt img n i) + 12 ≤ length img
   leaf-inside n i m u =
       let (r, l) = leaf-records n m in
       record-inside img n i r (node-inside hfs fits img (s .lengths) (s .header .totalNodes) n l) u

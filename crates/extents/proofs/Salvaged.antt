@@ -7,13 +7,15 @@ use native.Mathlib.Omega.{arith}
 use native.Mathlib.Decide.{decLt}
 use lib.ListN.{length}
 use Rattle.btree.specs.declared.Salvage.the-variants.{Seen}
+use Rattle.btree.specs.Places.{recordPlace}
 use Rattle.btree.specs.Lists.{_∈_}
 use Rattle.btree.specs.Tree.{Rec, leavesAt}
 use Rattle.btree.specs.Header.{viewOf}
+use Rattle.btree.specs.Search.{placeOf}
 use Rattle.btree.proofs.Paths.{leaf-stands, leaf-listed, leafList-once}
 use Rattle.formats.specs.declared.key.Key.{Key}
 use Rattle.formats.specs.Key.{Lawful, packed, keyAt}
-use Rattle.formats.specs.Format.{keyOf, recordAt, view}
+use Rattle.formats.specs.Format.{recordAt, view}
 use Rattle.extents.specs.Reader.{Sound, leafList, salvaged}
 use Rattle.nodes.specs.Whole.{WholeLeaf}
 use Rattle.search.specs.Seen.{First}
@@ -29,19 +31,19 @@ leavesOf img = leavesAt (view img) (view img .depth)
 
 -- the key that a record has in the image
 abbrev pub ownKey : List ℕ → Rec → Key
-ownKey img x = keyAt img (recordAt img (x .node) (x .at))
+ownKey img x = keyAt img (recordAt img (x .node) (x .number))
 
 -- salvage sees the key k of the leaf record x
 pub record Kept (img : List ℕ) (k : Key) (x : Rec) : Type 0 where
   pub node : ℕ
-  pub at : ℕ
-  pub seen : salvaged img k ≡ Seen node at
+  pub number : ℕ
+  pub seen : salvaged img k ≡ Seen (recordPlace (view img) node number)
   -- in a whole leaf that has the key, the record's own or an earlier one
   pub afterHeader : 1 ≤ node
-  pub has : Has img (packed k) node at
+  pub has : Has img (packed k) node number
   pub notAfter : node ≤ x .node
   -- and where that is a leaf of the tree, it is the record itself
-  pub own : node ∈ leavesOf img → (node ≡ x .node) × (at ≡ x .at)
+  pub own : node ∈ leavesOf img → (node ≡ x .node) × (number ≡ x .number)
 
 module _ (img : List ℕ) (s : Sound img) where
   -- a leaf of a sound tree counts
@@ -60,57 +62,57 @@ module _ (img : List ℕ) (s : Sound img) where
     kept =
         let q = leaf-stands (view img) (s .tree) (s .totals) x listed in
         let (a, b, w) = leaf-counts (x .node) (q .leaf) in
-        let (m, j, e, f) = some-seen img (packed k) (length img / 512) Hit (λ n i. (λ h. h, λ h. h)) (x .node) (x .at)
+        let (m, j, e, f) = some-seen img (packed k) (length img / 512) Hit (λ n i. (λ h. h, λ h. h)) (x .node) (x .number)
         (a, b, record { counts = w; inside = q .inside; isKey = q .isKey ∙ same }) in
         let searched : Searched img k = record { lawful = lawful; few = let l = s .lengths .few in omega arith } in
         let (c, d, h) = f .here in
         record {
           node = m;
-          at = j;
+          number = j;
           seen = salvage-searched img k searched ∙ e;
           afterHeader = c;
           has = h;
           notAfter = earliest m j f (a, b, record { counts = w; inside = q .inside; isKey = q .isKey ∙ same }) (decLt (x .node) m);
           own = λ l. let y = leafList-once (view img) (s .tree) (s .totals) _ x (leaf-listed (view img) (s .tree) (s .totals) m j l (h .inside)) listed (h .isKey ∙ sym same) in
-              (ap (λ (r : Rec). r .node) y, ap (λ (r : Rec). r .at) y);
+              (ap (λ (r : Rec). r .node) y, ap (λ (r : Rec). r .number) y);
         }
       where
         Hit : ℕ → ℕ → Type 0
         Hit n i = (1 ≤ n) × (n < length img / 512) × Has img (packed k) n i
 
-        earliest : (m j : ℕ) → First Hit m j → Hit (x .node) (x .at) → Dec (x .node < m) → m ≤ x .node
-        earliest m j f h (yes l) = absurd (f .noneEarlier (x .node) (x .at) l h)
+        earliest : (m j : ℕ) → First Hit m j → Hit (x .node) (x .number) → Dec (x .node < m) → m ≤ x .node
+        earliest m j f h (yes l) = absurd (f .noneEarlier (x .node) (x .number) l h)
         earliest m j f h (no l) = omega arith
 
     -- it is the record itself unless an earlier whole leaf has the key
-    pub kept-itself : ((m j : ℕ) → 1 ≤ m → m < x .node → Has img (packed k) m j → ⊥) → salvaged img k ≡ Seen (x .node) (x .at)
+    pub kept-itself : ((m j : ℕ) → 1 ≤ m → m < x .node → Has img (packed k) m j → ⊥) → salvaged img k ≡ Seen (placeOf x)
     kept-itself none = go kept
       where
-        go : Kept img k x → salvaged img k ≡ Seen (x .node) (x .at)
+        go : Kept img k x → salvaged img k ≡ Seen (placeOf x)
         go r = at (decLt (r .node) (x .node))
           where
-            at : Dec (r .node < x .node) → salvaged img k ≡ Seen (x .node) (x .at)
-            at (yes l) = absurd (none (r .node) (r .at) (r .afterHeader) l (r .has))
+            at : Dec (r .node < x .node) → salvaged img k ≡ Seen (placeOf x)
+            at (yes l) = absurd (none (r .node) (r .number) (r .afterHeader) l (r .has))
             at (no l) =
                 let n = r .notAfter in
                 let e : r .node ≡ x .node = omega arith in
                 let q = leaf-stands (view img) (s .tree) (s .totals) x listed in
                 let (a, b) = r .own (rw e (q .leaf)) in
-                r .seen ∙ rw (a, b)
+                r .seen ∙ rw (a, b, q .isOffset)
 
   -- so is every leaf record, by the key that it has
   pub kept-own : (x : Rec) → x ∈ leafList img → Kept img (ownKey img x) x
-  unfolding viewOf keyOf
+  unfolding viewOf
   kept-own x listed =
       let q = leaf-stands (view img) (s .tree) (s .totals) x listed in
       let (a, b, w) = leaf-counts (x .node) (q .leaf) in
-      kept (ownKey img x) (w .records .forks (x .at) (q .inside)) x listed (sym (q .isKey))
+      kept (ownKey img x) (w .records .forks (x .number) (q .inside)) x listed (sym (q .isKey))
 
   -- and by any key in range that has its number
   pub kept-number : Bytes img → (k : Key) → InRange k → (x : Rec) → x ∈ leafList img → x .key ≡ packed k → Kept img k x
-  unfolding viewOf keyOf
+  unfolding viewOf
   kept-number bytes k range x listed same =
       let q = leaf-stands (view img) (s .tree) (s .totals) x listed in
       let (a, b, w) = leaf-counts (x .node) (q .leaf) in
-      let e = packed-fork (ownKey img x) k (key-range img bytes (recordAt img (x .node) (x .at))) range (q .isKey ∙ same) in
-      kept k (rw e at (w .records .forks (x .at) (q .inside))) x listed same
+      let e = packed-fork (ownKey img x) k (key-range img bytes (recordAt img (x .node) (x .number))) range (q .isKey ∙ same) in
+      kept k (rw e at (w .records .forks (x .number) (q .inside))) x listed same

@@ -10,10 +10,12 @@ use lib.ListN.{length}
 use Rattle.image.specs.Part.{Lies}
 use Rattle.btree.specs.declared.Answer.the-variants.{Found, Absent}
 use Rattle.btree.specs.declared.Lookup.{Lookup}
+use Rattle.btree.specs.declared.Place.{Place}
+use Rattle.btree.specs.Places.{imageStart}
 use Rattle.btree.specs.Lists.{_∈_, lastOr}
 use Rattle.btree.specs.Tree.{Rec}
 use Rattle.btree.specs.Header.{depthOf}
-use Rattle.btree.specs.Search.{pathOut, refused, halvedIn}
+use Rattle.btree.specs.Search.{placeOf, pathOut, refused, halvedIn}
 use Rattle.formats.specs.declared.key.Key.{Key}
 use Rattle.formats.specs.Key.{Lawful, packed, compared, keyAt}
 use Rattle.formats.specs.Format.{recordAt, view}
@@ -21,22 +23,22 @@ use Rattle.extents.specs.Reader.{Sound, verdict, leafList, searchPath, k
 
 -- "A record has the asked key when the two keys compare as 0."
 abbrev pub HasKey : List ℕ → Key → Rec → Type 0
-HasKey img k x = compared (keyAt img (recordAt img (x .node) (x .at))) k ≡ pos 0
+HasKey img k x = compared (keyAt img (recordAt img (x .node) (x .number))) k ≡ pos 0
 
 -- of a sound image and a key with a lawful fork byte
 pub record SoundAnswer (img : List ℕ) (k : Key) (r : Lookup) : Type 0 where
-  -- found exactly when one of the leaf records has the key, at its node and record
-  pub found : (n i : ℕ) → (r .answer ≡ Found n i) ↔ ((x : Rec) × (x ∈ leafList img) × (HasKey img k x) × (x .node ≡ n) × (x .at ≡ i))
+  -- found exactly when one of the leaf records has the key; W-208: with "the record's start"
+  pub found : (p : Place) → (r .answer ≡ Found p) ↔ ((x : Rec) × (x ∈ leafList img) × (HasKey img k x) × (placeOf x ≡ p))
   -- and then no other has it
   pub once : (x y : Rec) → x ∈ leafList img → y ∈ leafList img → HasKey img k x → HasKey img k y → x ≡ y
   -- absent exactly when none has it
   pub absent : ((n : ℕ) × (r .answer ≡ Absent n)) ↔ ((x : Rec) → x ∈ leafList img → HasKey img k x → ⊥)
   -- "Absent is 12 with the road's last node, or 0 if the road is empty"
-  pub place : (n : ℕ) → r .answer ≡ Absent n → n ≡ lastOr 0 (searchPath img k)
+  pub lastNode : (n : ℕ) → r .answer ≡ Absent n → n ≡ lastOr 0 (searchPath img k)
   -- "A lookup that is not refused reports this road, with its length."
   pub path : r .path ≡ pathOut (searchPath img k)
   -- as long as the tree is deep when found, never longer, never above eight
-  pub whole : (n i : ℕ) → r .answer ≡ Found n i → length (searchPath img k) ≡ depthOf img
+  pub whole : (p : Place) → r .answer ≡ Found p → length (searchPath img k) ≡ depthOf img
   pub short : length (searchPath img k) ≤ depthOf img
   pub eight : depthOf img ≤ 8
   -- W-202: "A lookup also answers how many keys it compared so, in all"
@@ -48,7 +50,7 @@ pub record SoundAnswer (img : List ℕ) (k : Key) (r : Lookup) : Type 0 where
 -- what a lookup says of any image and any key; "Of anything else it says neither: it refuses."
 pub record LookupSays (img : List ℕ) (k : Key) (r : Lookup) : Type 0 where
   pub ofSound : Sound img → Lawful (k .fork) → SoundAnswer img k r
-  pub ofUnlawful : (Lawful (k .fork) → ⊥) → r ≡ refused 11 0
+  pub ofUnlawful : (Lawful (k .fork) → ⊥) → r ≡ refused 11 imageStart
   pub ofUnsound : Lawful (k .fork) → (Sound img → ⊥) → r ≡ refused (verdict img .number) (verdict img .place)
 
 -- the slice r is this part of the image, and lies where it does

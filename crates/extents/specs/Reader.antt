@@ -4,12 +4,14 @@ use mathlib.Core.List.{List}
 use Prim.Native.Nat.{ℕ, _-_, _*_, _/_}
 use native.Mathlib.Decide.{decLe}
 use lib.ListN.{length}
+use Rattle.btree.specs.declared.Place.{Place}
 use Rattle.btree.specs.declared.Verdict.{Verdict}
 use Rattle.btree.specs.declared.Answer.{Answer}
 use Rattle.btree.specs.declared.Answer.the-variants as answer
 use Rattle.btree.specs.declared.Lookup.{Lookup}
 use Rattle.btree.specs.declared.Salvage.{Salvage}
 use Rattle.btree.specs.declared.Salvage.the-variants.{Seen, NotSeen, Refused}
+use Rattle.btree.specs.Places.{imageStart, imageOffset}
 use Rattle.btree.specs.Decide.{cond}
 use Rattle.btree.specs.Tree.{Rec}
 use Rattle.btree.specs.Search as search
@@ -49,24 +51,25 @@ pub record Part : Type 0 where
 abbrev pub emptyPart : Part
 emptyPart = record { at = 0; size = 0 }
 
-abbrev pub dataPart : List ℕ → ℕ → ℕ → Part
-dataPart img n i = record { at = dataAt img n i; size = 12 }
+-- the data of the leaf record that starts at a place
+abbrev pub dataPart : Place → Part
+dataPart p = record { at = dataAt (imageOffset hfs p); size = 12 }
 
 -- "Found hands back the 12 data bytes as a part of the image; every other answer hands back the empty part at its start."
-abbrev pub foundPart : List ℕ → Answer → Part
-foundPart img (answer.Found n i) = dataPart img n i
-foundPart img (answer.Absent n) = emptyPart
-foundPart img (answer.Refused number place) = emptyPart
+abbrev pub foundPart : Answer → Part
+foundPart (answer.Found p) = dataPart p
+foundPart (answer.Absent n) = emptyPart
+foundPart (answer.Refused number place) = emptyPart
 
 -- "Salvage tests 11, then length: more than 3,072,000 bytes is 1; any other length is taken, and a broken last node is ignored. From node 1 up"
 unfoldable pub salvaged : List ℕ → Key → Salvage
 salvaged img k =
     cond (decLawful (k .fork))
-    (cond (decLe (length img) (hfs .maxNodes * hfs .nodeSize)) (seenFrom img (packed k) 1 (length img / hfs .nodeSize - 1)) (Refused 1 0))
-    (Refused 11 0)
+    (cond (decLe (length img) (hfs .maxNodes * hfs .nodeSize)) (seenFrom img (packed k) 1 (length img / hfs .nodeSize - 1)) (Refused 1 imageStart))
+    (Refused 11 imageStart)
 
 -- "The first match is seen, data as a part of the image."
-abbrev pub seenPart : List ℕ → Salvage → Part
-seenPart img (Seen n i) = dataPart img n i
-seenPart img NotSeen = emptyPart
-seenPart img (Refused number place) = emptyPart
+abbrev pub seenPart : Salvage → Part
+seenPart (Seen p) = dataPart p
+seenPart NotSeen = emptyPart
+seenPart (Refused number place) = emptyPart

@@ -6,13 +6,15 @@ use mathlib.Core.List.{List}
 use Prim.Native.Nat.{ℕ, _/_, _<_, _≤_}
 use lib.IntN.{pos}
 use lib.ListN.{length}
+use Rattle.btree.specs.declared.Place.{Place}
 use Rattle.btree.specs.declared.Salvage.{Salvage}
 use Rattle.btree.specs.declared.Salvage.the-variants.{Seen, NotSeen, Refused}
+use Rattle.btree.specs.Places.{imageStart, recordPlace}
 use Rattle.btree.specs.Header.{countOf}
 use Rattle.hfs.specs.Hfs.{hfs}
 use Rattle.formats.specs.declared.key.Key.{Key}
 use Rattle.formats.specs.Key.{Lawful, compared, keyAt}
-use Rattle.formats.specs.Format.{recordAt}
+use Rattle.formats.specs.Format.{recordAt, view}
 use Rattle.nodes.specs.Whole.{WholeLeaf}
 use Rattle.search.specs.Seen.{First}
 
@@ -35,8 +37,9 @@ pub record Searched (img : List ℕ) (k : Key) : Type 0 where
 
 pub record SalvageSays (img : List ℕ) (k : Key) (r : Salvage) : Type 0 where
   -- 11: "asked key has a fork byte other than 00 or FF"
-  pub unlawful : (Lawful (k .fork) → ⊥) → r ≡ Refused 11 0
+  pub unlawful : (Lawful (k .fork) → ⊥) → r ≡ Refused 11 imageStart
   -- "more than 3,072,000 bytes is 1; any other length is taken"
-  pub long : Lawful (k .fork) → 3072000 < length img → r ≡ Refused 1 0
-  pub seen : Searched img k → (n i : ℕ) → (r ≡ Seen n i) ↔ First (Match img k) n i
+  pub long : Lawful (k .fork) → 3072000 < length img → r ≡ Refused 1 imageStart
+  -- seen exactly when a match comes first; W-208: with "the record's start"
+  pub seen : Searched img k → (p : Place) → (r ≡ Seen p) ↔ ((n : ℕ) × (i : ℕ) × First (Match img k) n i × (recordPlace (view img) n i ≡ p))
   pub notSeen : Searched img k → (r ≡ NotSeen) ↔ ((n i : ℕ) → Match img k n i → ⊥)

@@ -9,8 +9,10 @@ ghost use Rattle.extents.specs.Salvage.{SalvageSays};
 use btree::Answer;
 use btree::Lookup;
 use btree::Path;
+use btree::Place;
 use btree::Salvage;
 use btree::Verdict;
+use btree::at_node;
 use formats::key::is_lawful;
 use formats::key::pack;
 use formats::records::data_of;
@@ -24,36 +26,32 @@ use search::descent::descend;
 use search::scan::first_seen;
 use walk::tree_tests;
 
-// The first fault in the order of tests, number and place; 0 and 0 for a sound image.
+// The first fault in the order of tests, number and place; 0 at node 0, offset 0 for a sound image.
 pub fn check(image: &[u8]) -> Verdict
     ensures equal { λ r. ⌜ r ≡ verdict (now (image .entry)) ⌝ }
     ensures sound { λ r. ⌜ (r .number ≡ 0) ↔ Sound (now (image .entry)) ⌝ }
 {
     if !length_right(image) {
-        return Verdict {
-            number: 1,
-            place: 0,
-        };
+        return at_node(1, 0);
     }
     if !header_right(image, 7) {
-        return Verdict {
-            number: 2,
-            place: 0,
-        };
+        return at_node(2, 0);
     }
     let chain = map_chain(image);
     if chain.number != 0 {
+        let place = chain.place;
         return Verdict {
             number: chain.number,
-            place: chain.place,
+            place,
         };
     }
     let mapped = chain.visited;
     let tree = tree_tests(image, mapped, chain.nodes);
     if tree.number != 0 {
+        let place = tree.place;
         return Verdict {
             number: tree.number,
-            place: tree.place,
+            place,
         };
     }
     let bits = tree.visited;
@@ -61,10 +59,11 @@ pub fn check(image: &[u8]) -> Verdict
     map_tests(image, reached, tree.nodes)
 }
 
-fn refusal(number: u32, place: u32) -> Lookup
-    ensures { λ r. ⌜ r ≡ refused number place ⌝ }
+fn refusal(t: Verdict) -> Lookup
+    ensures { λ r. ⌜ r ≡ refused (t .number) (t .place) ⌝ }
 {
-    let answer = Answer::Refused(number, place);
+    let place = t.place;
+    let answer = Answer::Refused(t.number, place);
     let path = Path {
         nodes: [0; 8],
         len: 0,
@@ -82,23 +81,23 @@ pub fn lookup(image: &[u8], file: u32, fork: u8, start: u16) -> Lookup
     ensures says { λ r. ⌜ LookupSays (now (image .entry)) (asked file fork start) r ⌝ }
 {
     if !is_lawful(fork as u32) {
-        return refusal(11, 0);
+        return refusal(at_node(11, 0));
     }
     let t = check(image);
     if t.number != 0 {
-        return refusal(t.number, t.place);
+        return refusal(t);
     }
     descend(image, pack(file, fork, start))
 }
 
 // The 12 data bytes of the record that a lookup finds, or else the empty part at the image's start.
 pub fn lookup_part<'a>(image: &'a [u8], file: u32, fork: u8, start: u16) -> &'a [u8]
-    ensures { λ r. ⌜ PartOf (image .entry) r (foundPart (now (image .entry)) (lookedUp (now (image .entry)) (asked file fork start) .answer)) ⌝ }
+    ensures { λ r. ⌜ PartOf (image .entry) r (foundPart (lookedUp (now (image .entry)) (asked file fork start) .answer)) ⌝ }
 {
     let found = lookup(image, file, fork, start);
     let answer = found.answer;
     match answer {
-        Answer::Found(node, i) => data_of(image, node, i),
+        Answer::Found(place) => data_of(image, place),
         Answer::Absent(_) => no_part(image),
         Answer::Refused(_, _) => no_part(image),
     }
@@ -110,20 +109,20 @@ pub fn salvage(image: &[u8], file: u32, fork: u8, start: u16) -> Salvage
     ensures says { λ r. ⌜ SalvageSays (now (image .entry)) (asked file fork start) r ⌝ }
 {
     if !is_lawful(fork as u32) {
-        return Salvage::Refused(11, 0);
+        return Salvage::Refused(11, Place { node: 0, offset: 0 });
     }
     if image.len() > 3_072_000 {
-        return Salvage::Refused(1, 0);
+        return Salvage::Refused(1, Place { node: 0, offset: 0 });
     }
     first_seen(image, pack(file, fork, start))
 }
 
 // The 12 data bytes of the record that `salvage` sees; else the empty part at the image's start.
 pub fn salvage_part<'a>(image: &'a [u8], file: u32, fork: u8, start: u16) -> &'a [u8]
-    ensures { λ r. ⌜ PartOf (image .entry) r (seenPart (now (image .entry)) (salvaged (now (image .entry)) (asked file fork start))) ⌝ }
+    ensures { λ r. ⌜ PartOf (image .entry) r (seenPart (salvaged (now (image .entry)) (asked file fork start))) ⌝ }
 {
     match salvage(image, file, fork, start) {
-        Salvage::Seen(node, i) => data_of(image, node, i),
+        Salvage::Seen(place) => data_of(image, place),
         Salvage::NotSeen => no_part(image),
         Salvage::Refused(_, _) => no_part(image),
     }

@@ -9,10 +9,12 @@ use native.Mathlib.Numerals.{add-one}
 use native.Mathlib.Omega.{arith}
 use native.Mathlib.Decide.{ℕ-discrete}
 use lib.ListN.{length}
+use Rattle.image.specs.Bytes.{be16At}
 use Rattle.btree.specs.Header.{countOf}
 use Rattle.hfs.specs.Hfs.{hfs}
 use Rattle.btree.proofs.Decisions.{cond-yes, cond-no}
-use Rattle.formats.specs.Format.{leafKind, recordSize, maxRecords, kindOf, recordAt, dataAt, Records}
+use Rattle.formats.specs.Format.{leafKind, recordSize, maxRecords, kindOf, recordOffset, recordAt, dataAt, Records}
+use Rattle.formats.proofs.Order.{Bytes}
 
 module _ (kind : ℕ) where
   pub size-leaf : kind ≡ leafKind → recordSize kind ≡ 20
@@ -40,14 +42,28 @@ module _ (kind : ℕ) where
 
 -- from one record to the next
 pub record-next : (img : List ℕ) (n i : ℕ) → recordAt img n (i + 1) ≡ recordAt img n i + recordSize (kindOf img n)
-unfolding recordAt
+unfolding recordOffset
 record-next img n i = let e = suc-mul i (recordSize (kindOf img n)) in rw (add-one i) (omega arith)
 
+-- two records of a node that start at one byte are one
+pub offset-once : (img : List ℕ) (n i j : ℕ) → recordOffset img n i ≡ recordOffset img n j → i ≡ j
+unfolding recordOffset
+offset-once img n i j e = go (ℕ-discrete (kindOf img n) leafKind)
+  where
+    go : Dec (kindOf img n ≡ leafKind) → i ≡ j
+    go (yes q) = let k = rw (size-leaf (kindOf img n) q) at e in omega arith
+    go (no q) = let k = rw (size-index (kindOf img n) q) at e in omega arith
+
 -- record i of a leaf that is laid out right, in an image that has the node
-pub record-inside : (img : List ℕ) (n i : ℕ) → Records img leafKind n → n * 512 + 512 ≤ length img → i < countOf hfs img n → dataAt img n i + 12 ≤ length img
-unfolding recordAt
+pub record-inside : (img : List ℕ) (n i : ℕ) → Records img leafKind n → n * 512 + 512 ≤ length img → i < countOf hfs img n → dataAt (recordAt img n i) + 12 ≤ length img
+unfolding recordOffset
 record-inside img n i r h u =
     let a = size-leaf (kindOf img n) (r .isKind) in
     let b = max-leaf leafKind refl in
     let c = r .few in
     rw a (omega arith)
+
+-- a count is a word
+pub count-small : (img : List ℕ) → Bytes img → (n : ℕ) → countOf hfs img n < 65536
+unfolding be16At
+count-small img b n = let h = b (n * 512 + 10) in let l = b (n * 512 + 10 + 1) in omega arith

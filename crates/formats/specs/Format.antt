@@ -6,7 +6,7 @@ use mathlib.Core.List.{List}
 use Prim.Native.Nat.{ℕ, suc, _+_, _-_, _*_, _≤_, _<_}
 use native.Mathlib.Decide.{ℕ-discrete, decLe}
 use lib.ListN.{getD}
-use Rattle.image.specs.Bytes.{be16At, be32At}
+use Rattle.image.specs.Bytes.{be16At}
 use Rattle.btree.specs.Decide.{cond, map-dec, decAll}
 use Rattle.btree.specs.Tree.{View}
 use Rattle.btree.specs.Header.{Format, depthOf, countOf, viewOf}
@@ -40,15 +40,12 @@ module _ (img : List ℕ) where
   levelOf n = getD img (n * 512 + 9) 0
 
   -- "Records lie side by side from 0E"
-  unfoldable pub recordAt : ℕ → ℕ → ℕ
-  recordAt n i = n * 512 + (14 + i * recordSize (kindOf n))
+  unfoldable pub recordOffset : ℕ → ℕ → ℕ
+  recordOffset n i = 14 + i * recordSize (kindOf n)
 
-  -- where the data of record i of the leaf n starts: "key and 12 bytes"
-  abbrev pub dataAt : ℕ → ℕ → ℕ
-  dataAt n i = recordAt n i + 8
-
-  unfoldable pub keyOf : ℕ → ℕ → ℕ
-  keyOf n i = packed (keyAt img (recordAt n i))
+  -- where record i of the node n starts in the image
+  abbrev pub recordAt : ℕ → ℕ → ℕ
+  recordAt n i = n * 512 + recordOffset n i
 
   -- the records of a node of this kind, whatever its level and its links
   pub record Records (kind n : ℕ) : Type 0 where
@@ -88,13 +85,19 @@ module _ (img : List ℕ) where
       map-dec (λ (a, b). record { level = a; records = b }) (λ r. (r .level, r .records))
       (Dec·and (ℕ-discrete (levelOf n + d) depth) (decRecords (kindOn (levelOf n)) n))
 
+-- where the data starts of a leaf record that starts at this byte of the image: "key and 12 bytes"
+abbrev pub dataAt : ℕ → ℕ
+dataAt at = at + 8
+
 abbrev pub format : Format
 format =
     record {
       -- "key length is 7"
       keyLength = 7;
-      key = keyOf;
-      child = λ img n i. be32At img (recordAt img n i + 8);
+      packedAt = λ img at. packed (keyAt img at);
+      recordOffset = recordOffset;
+      -- "Index record: key and a child's node number (4)"
+      childOffset = λ img n i. recordOffset img n i + 8;
       WellFormed = λ img n d. NodeOn img (depthOf img) n d;
       decWellFormed = λ img n d. decNodeOn img (depthOf img) n d;
     }

@@ -3,8 +3,11 @@ ghost use mathlib.Core.Path.{_≡_};
 ghost use Prim.Native.Nat.{_+_, _<_, _≤_};
 ghost use lib.ListN.{length};
 ghost use Rattle.image.specs.Part.{Lies};
-ghost use Rattle.formats.specs.Format.{recordSize, maxRecords, kindOf, recordAt, dataAt, view};
+ghost use Rattle.btree.specs.Places.{imageOffset, recordPlace, childPlace};
+ghost use Rattle.hfs.specs.Hfs.{hfs};
+ghost use Rattle.formats.specs.Format.{recordSize, maxRecords, kindOf, recordOffset, recordAt, dataAt, view};
 use super::key::key_at;
+use btree::Place;
 use hfs::node::kind_of;
 use image::bytes::be32;
 use image::part::part_at;
@@ -23,7 +26,7 @@ pub fn max_records(kind: u32) -> u32
     if kind == 255 { 22 } else { 35 }
 }
 
-// Where record i of a node starts.
+// Where record i of a node starts in the image.
 pub fn record_at(image: &[u8], node: u32, i: u32) -> usize
     ensures { λ r. ⌜ (r ≡ recordAt (now (image .entry)) node i) × (r < 10000000000000) ⌝ }
 {
@@ -54,10 +57,40 @@ pub fn record_step(image: &[u8], node: u32) -> usize
     if kind_of(image, node) == 255 { 20 } else { 12 }
 }
 
-// The 12 data bytes of record i of a leaf.
-pub fn data_of<'a>(image: &'a [u8], node: u32, i: u32) -> &'a [u8]
-    requires { ⌜ dataAt (now image) node i + 12 ≤ length (now image) ⌝ }
-    ensures { λ r. ⌜ Lies (image .entry) r (dataAt (now (image .entry)) node i) 12 ⌝ }
+// Where record i of a node starts in it.
+fn record_offset(image: &[u8], node: u32, i: u32) -> u32
+    requires { ⌜ i < view (now image) .count node ⌝ }
+    ensures { λ r. ⌜ (r ≡ recordOffset (now (image .entry)) node i) × (r < 2000000) ⌝ }
 {
-    part_at(image, record_at(image, node, i) + 8, 12)
+    if kind_of(image, node) == 255 {
+        14 + i * 20
+    } else {
+        14 + i * 12
+    }
+}
+
+pub fn record_place(image: &[u8], node: u32, i: u32) -> Place
+    requires { ⌜ i < view (now image) .count node ⌝ }
+    ensures { λ r. ⌜ r ≡ recordPlace (view (now (image .entry))) node i ⌝ }
+{
+    let offset = record_offset(image, node, i);
+    Place { node, offset }
+}
+
+// Where the number of the child of record i of an index node stands.
+pub fn child_place(image: &[u8], node: u32, i: u32) -> Place
+    requires { ⌜ i < view (now image) .count node ⌝ }
+    ensures { λ r. ⌜ r ≡ childPlace (view (now (image .entry))) node i ⌝ }
+{
+    let offset = record_offset(image, node, i) + 8;
+    Place { node, offset }
+}
+
+// The 12 data bytes of the leaf record that starts at a place.
+pub fn data_of<'a>(image: &'a [u8], place: Place) -> &'a [u8]
+    requires { ⌜ dataAt (imageOffset hfs place) + 12 ≤ length (now image) ⌝ }
+    ensures { λ r. ⌜ Lies (image .entry) r (dataAt (imageOffset hfs place)) 12 ⌝ }
+{
+    let at = (place.node as usize) * 512 + (place.offset as usize);
+    part_at(image, at + 8, 12)
 }

@@ -30,10 +30,12 @@ fn main() {
     case(b"two_level");
     case(b"two_level_levels_from_the_root_in_node_63");
     case(b"two_level_child_33_is_parent_in_node_63");
-    case(b"two_level_last_key_at_next_pointer_in_node_60");
+    case(b"two_level_key_1_lowered_and_4_at_next_pointer_in_node_60");
+    case(b"two_level_key_10_at_next_pointer_in_node_32");
     case(b"two_level_pointer_32_far_below_first_key_in_node_63");
     case(b"two_level_forward_link_0_in_node_60");
     case(b"two_level_leaf_records_one_short_in_node_0");
+    case(b"falling_map_nodes_bits_13903_and_13904_flipped_in_node_13");
     case(b"three_level");
     case(b"longest_listed");
     case(b"length_65537");

@@ -9,7 +9,7 @@ use native.Mathlib.Omega.{arith}
 use lib.ListN.{length, length-append}
 use Rattle.btree.specs.Lists.{span, gather, along}
 use Rattle.btree.specs.Tree.{View, Rec, recordCount, leavesAt, SoundTree, LeafTotals}
-use Rattle.btree.specs.Search.{recordsOf, leafList}
+use Rattle.btree.specs.Search.{recordOf, recordsOf, leafList}
 use Rattle.btree.proofs.Leaves.{leafList-leaves}
 use Rattle.btree.specs.Header.{leafRecordsOf, viewOf}
 use Rattle.formats.specs.Format.{view}
@@ -52,9 +52,6 @@ module _ (v : View) where
   abbrev pub rowFrom : ℕ → ℕ → ℕ → Row
   rowFrom links n k = rowOf (nth k (gather (recordsOf v) (along forward links n)))
 
-  abbrev rec : ℕ → ℕ → Rec
-  rec n i = record { node = n; at = i; key = v .key n i }
-
   -- the records along the links after the node n
   abbrev later : ℕ → ℕ → List Rec
   later links n = gather (recordsOf v) (along forward (links - 1) (forward n))
@@ -62,11 +59,11 @@ module _ (v : View) where
   pub row-inside : (links n k : ℕ) → 0 < links → (n ≡ 0 → ⊥) → k < count n → rowFrom links n k ≡ Record n k
   row-inside links n k l z h =
       let e : 0 + k ≡ k = omega arith in
-      rw (along-on forward links n l z) (ap rowOf (nth-inside (rec n) (later links n) 0 (count n) k h) ∙ ap (Record n) e)
+      rw (along-on forward links n l z) (ap rowOf (nth-inside (recordOf v n) (later links n) 0 (count n) k h) ∙ ap (Record n) e)
 
   pub row-on : (links n k : ℕ) → 0 < links → (n ≡ 0 → ⊥) → count n ≤ k → rowFrom links n k ≡ rowFrom (links - 1) (forward n) (k - count n)
   row-on links n k l z h =
-      rw (along-on forward links n l z) (ap rowOf (nth-past (rec n) (later links n) 0 (count n) k h))
+      rw (along-on forward links n l z) (ap rowOf (nth-past (recordOf v n) (later links n) 0 (count n) k h))
 
   pub row-none : (links n k : ℕ) → (links ≡ 0) ⊎ (n ≡ 0) → rowFrom links n k ≡ NoRecord
   unfolding nth
@@ -76,7 +73,7 @@ module _ (v : View) where
   gathered [] = refl
   gathered (n ∷ ns) =
       let a = length-append (recordsOf v n) (gather (recordsOf v) ns) in
-      let b = length-span (rec n) 0 (count n) in
+      let b = length-span (recordOf v n) 0 (count n) in
       let c = gathered ns in omega arith
 
   module _ (s : SoundTree v) (t : LeafTotals v) where

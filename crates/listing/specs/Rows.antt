@@ -20,10 +20,10 @@ nth k [] = none
 nth zero (x ∷ xs) = some x
 nth (suc k) (x ∷ xs) = nth k xs
 
--- "each as its place (node and record number)"
+-- a row names its record by node and number; the leaf record has its start too
 abbrev pub rowOf : Option Rec → Row
 rowOf none = NoRecord
-rowOf (some x) = Record (x .node) (x .at)
+rowOf (some x) = Record (x .node) (x .number)
 
 -- "one line per leaf record in leaf order": row k, counted from 0
 abbrev pub leafRow : List ℕ → ℕ → Row
@@ -44,4 +44,4 @@ pairsAt img at =
 
 -- the nine numbers of a line, of record i of the node n
 unfoldable pub fieldsOf : List ℕ → ℕ → ℕ → List ℕ
-fieldsOf img n i = keyFields (keyAt img (recordAt img n i)) (pairsAt img (dataAt img n i))
+fieldsOf img n i = keyFields (keyAt img (recordAt img n i)) (pairsAt img (dataAt (recordAt img n i)))

@@ -11,7 +11,7 @@ use image::bytes::be16;
 use image::bytes::be32;
 use image::bytes::byte_at;
 
-// A place in the listing: the node and the record in it, or past the last row.
+// A row of the listing: the node and the record's number in it, or past the last row.
 pub enum Row {
     Record(u32, u32),
     NoRecord,

@@ -9,6 +9,7 @@ use native.Mathlib.Decide.{decLe, decLt}
 use native.Mathlib.Omega.{arith}
 use lib.ListN.{length, length-reverseAux}
 use Rattle.image.specs.Set.{member, Marked}
+use Rattle.btree.specs.Places.{nodePlace}
 use Rattle.btree.specs.Lists.{_∈_, along}
 use Rattle.btree.specs.Decide.{says, decMem}
 use Rattle.btree.specs.Header.{totalOf, forwardOf, mapNodes}
@@ -60,7 +61,7 @@ module _ {img bits : List ℕ} {nodes last left n : ℕ} (k : Linked img bits no
   is-member : member bits n ≡ says (decMem n (0 ∷ met))
   is-member = member-says bits (0 ∷ met) (k .passed .marks) n
 
-  pub out-of-range : totalOf img ≤ n → chainFrom hfs img [] 0 (mapNodes hfs img) ≡ fails 3 last
+  pub out-of-range : totalOf img ≤ n → chainFrom hfs img [] 0 (mapNodes hfs img) ≡ fails 3 (nodePlace last)
   unfolding chainFrom
   out-of-range h = here ∙ unless-false (says (decLt n (totalOf img))) _ _ (says-no (decLt n (totalOf img)) (λ l. omega arith))
 
@@ -68,7 +69,7 @@ module _ {img bits : List ℕ} {nodes last left n : ℕ} (k : Linked img bits no
     in-range : says (decLt n (totalOf img)) ≡ true
     in-range = says-yes (decLt n (totalOf img)) range
 
-    pub repeated : member bits n ≡ true → chainFrom hfs img [] 0 (mapNodes hfs img) ≡ fails 3 last
+    pub repeated : member bits n ≡ true → chainFrom hfs img [] 0 (mapNodes hfs img) ≡ fails 3 (nodePlace last)
     unfolding chainFrom
     repeated h =
         let m = said (decMem n (0 ∷ met)) (sym is-member ∙ h) in
@@ -80,7 +81,7 @@ module _ {img bits : List ℕ} {nodes last left n : ℕ} (k : Linked img bits no
       is-new : says (Dec·not (decMem n met)) ≡ true
       is-new = says-yes (Dec·not (decMem n met)) (λ m. unsaid (decMem n (0 ∷ met)) (sym is-member ∙ fresh) (List·Memᴰ·tail m))
 
-      pub no-map-node : says (decMapNode hfs img n) ≡ false → chainFrom hfs img [] 0 (mapNodes hfs img) ≡ fails 3 n
+      pub no-map-node : says (decMapNode hfs img n) ≡ false → chainFrom hfs img [] 0 (mapNodes hfs img) ≡ fails 3 (nodePlace n)
       unfolding chainFrom
       no-map-node h =
           here ∙ unless-true (says (decLt n (totalOf img))) _ _ in-range
@@ -122,7 +123,7 @@ module _ {img bits : List ℕ} {nodes last left : ℕ} (p : Passed img bits node
   at-end : chainFrom hfs img [] 0 (mapNodes hfs img) ≡ chainFrom hfs img (p .met) last []
   at-end = p .verdict ∙ ap (chainFrom hfs img (p .met) last) none-left
 
-  pub too-few : 2048 + (nodes - 1) * 3952 < totalOf img → chainFrom hfs img [] 0 (mapNodes hfs img) ≡ fails 3 last
+  pub too-few : 2048 + (nodes - 1) * 3952 < totalOf img → chainFrom hfs img [] 0 (mapNodes hfs img) ≡ fails 3 (nodePlace last)
   unfolding chainFrom
   too-few h =
       let c = all-counted in
@@ -142,5 +143,5 @@ module _ {img bits : List ℕ} {nodes last left : ℕ} (p : Passed img bits node
       (λ m w. ⊎-elim (λ e. List·Memᴰ·head e) (λ z. ⊎-elim (λ y. List·Memᴰ·tail y) (λ y. absurd (List·Memᴰ·not-nil y)) (back-cases (p .met) [] z)) (List·Memᴰ·cases-cons w))
       (p .marks))
 
-pub chain-faulty : {img : List ℕ} {r : Chain} {place : ℕ} → (r .number ≡ 3) × (r .place ≡ place) → chainFrom hfs img [] 0 (mapNodes hfs img) ≡ fails 3 place → ChainOf img r
+pub chain-faulty : {img : List ℕ} {r : Chain} {node : ℕ} → (r .number ≡ 3) × (r .place ≡ nodePlace node) → chainFrom hfs img [] 0 (mapNodes hfs img) ≡ fails 3 (nodePlace node) → ChainOf img r
 chain-faulty (n, p) e = record { verdict = rw (n, p) (sym e); marks = λ z. absurd (omega arith); count = λ z. absurd (omega arith) }

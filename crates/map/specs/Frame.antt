@@ -1,7 +1,6 @@
 -- What the code keeps of the header and the map chain, and when it may go on to the map bits.
 -- Assumes nothing.
 use mathlib.Core.Path.{_≡_}
-use mathlib.Core.Option.{Option, none, some}
 use mathlib.Core.List.{List, [], _∷_}
 use Prim.Native.Nat.{ℕ, suc, _/_}
 use lib.ListN.{length}
@@ -11,8 +10,6 @@ use Rattle.btree.specs.Image.{Lengths, MapChain}
 use Rattle.btree.specs.Walk.{fails}
 use Rattle.btree.specs.Tests.{bitFor, chainFrom}
 use Rattle.map.specs.declared.chain.Chain.{Chain}
-use Rattle.map.specs.declared.bits.Wrong.{Wrong}
-use Rattle.map.specs.declared.bits.Wrong.the-variants.{At, Nowhere}
 use Rattle.hfs.specs.Hfs.{hfs}
 
 -- the bits set are those of these nodes
@@ -30,7 +27,3 @@ pub record Framed (img : List ℕ) : Type 0 where
   pub lengths : Lengths hfs img
   pub totalNodes : totalOf img ≡ length img / 512
   pub chain : MapChain hfs img
-
-abbrev pub wrongAt : Wrong → Option ℕ
-wrongAt (At k) = some k
-wrongAt Nowhere = none

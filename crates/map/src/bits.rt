@@ -4,28 +4,25 @@ ghost use mathlib.Core.List.{List};
 ghost use Prim.Native.Nat.{ℕ, _*_, _<_, _≤_};
 ghost use lib.ListN.{length};
 ghost use Rattle.image.specs.Bit.{bitOf};
-ghost use Rattle.btree.specs.Image.{mapBytes};
-ghost use Rattle.btree.specs.Tests.{lowestWrong, mapTests};
+ghost use Rattle.btree.specs.Hits.{hitOf};
+ghost use Rattle.btree.specs.Tests.{lowestWrong, bitTest, mapTests};
 ghost use Rattle.hfs.specs.Hfs.{hfs};
-ghost use Rattle.map.specs.Frame.{Marks, Framed, wrongAt};
+ghost use Rattle.map.specs.Frame.{Marks, Framed};
+use btree::Hit;
 use btree::Verdict;
+use btree::at_byte;
+use btree::at_node;
 use hfs::node::forward_of;
 use image::bytes::be32;
 use image::bytes::byte_at;
 use image::visited::Visited;
 
-// The lowest wrong bit.
-pub enum Wrong {
-    At(u32),
-    Nowhere,
-}
-
-// In one map record, whose first byte is the map's byte `first`: bytes outside, bits inside.
-fn wrong_in(map: &[u8], visited: Visited, first: usize) -> Wrong
+// The lowest wrong bit in one map record, whose first byte is the map's byte `first`: bytes outside, bits inside.
+fn wrong_in(map: &[u8], visited: Visited, first: usize) -> Hit
     requires { ⌜ (length (now map) ≤ 512) × (first < 4000000) ⌝ }
-    ensures { λ r. ⌜ wrongAt r ≡ lowestWrong (bitOf (visited .bits)) (8 * first) (now (map .entry)) ⌝ }
+    ensures { λ r. ⌜ r ≡ hitOf (lowestWrong (bitOf (visited .bits)) (8 * first) (now (map .entry))) ⌝ }
 {
-    let mut found = Wrong::Nowhere;
+    let mut found = Hit::Nowhere;
     let mut i: usize = 0;
     'bytes: while i < map.len() {
         let x = map[i] as u32;
@@ -34,7 +31,7 @@ fn wrong_in(map: &[u8], visited: Visited, first: usize) -> Wrong
             let mut j: u32 = 0;
             'bits: while j < 8 {
                 if (x >> (7 - j)) & 1 != (y >> (7 - j)) & 1 {
-                    found = Wrong::At(((first + i) * 8) as u32 + j);
+                    found = Hit::At(((first + i) * 8) as u32 + j);
                     break 'bytes;
                 }
                 j += 1;
@@ -45,12 +42,14 @@ fn wrong_in(map: &[u8], visited: Visited, first: usize) -> Wrong
     found
 }
 
-// Test 9, in the header's map record and then along the chain.
-fn lowest_wrong(image: &[u8], visited: Visited) -> Wrong
+// Test 9, in the header's map record and then along the chain: the byte in its node that has the bit.
+fn bit_test(image: &[u8], visited: Visited) -> Verdict
     requires { ⌜ Framed (now image) ⌝ }
-    ensures { λ r. ⌜ wrongAt r ≡ lowestWrong (bitOf (visited .bits)) 0 (mapBytes hfs (now (image .entry))) ⌝ }
+    ensures { λ r. ⌜ r ≡ bitTest hfs (now (image .entry)) (bitOf (visited .bits)) ⌝ }
 {
-    let mut found = wrong_in(&image[248..504], visited, 0);
+    if let Hit::At(bit) = wrong_in(&image[248..504], visited, 0) {
+        return at_byte(9, 0, 248 + bit / 8);
+    }
     let mut first: usize = 256;
     let mut node = forward_of(image, 0);
     let mut left = be32(image, 36);
@@ -58,16 +57,15 @@ fn lowest_wrong(image: &[u8], visited: Visited) -> Wrong
         if node == 0 {
             break;
         }
-        if let Wrong::At(_) = found {
-            return found;
-        }
         let at = (node as usize) * 512 + 14;
-        found = wrong_in(&image[at..at + 494], visited, first);
+        if let Hit::At(bit) = wrong_in(&image[at..at + 494], visited, first) {
+            return at_byte(9, node, 14 + (bit / 8 - (first as u32)));
+        }
         first += 494;
         node = forward_of(image, node);
         left -= 1;
     }
-    found
+    at_node(0, 0)
 }
 
 // Tests 9 and 10, where `visited` has the nodes reached from the header, and there are so many.
@@ -75,22 +73,13 @@ pub fn map_tests(image: &[u8], visited: Visited, nodes: u32) -> Verdict
     requires { ⌜ Framed (now image) ⌝ }
     ensures { λ r. ⌜ ((ns : List ℕ) → Marks (visited .bits) ns → nodes ≡ length ns → r ≡ mapTests hfs (now (image .entry)) ns) ⌝ }
 {
-    let wrong = lowest_wrong(image, visited);
-    if let Wrong::At(bit) = wrong {
-        return Verdict {
-            number: 9,
-            place: bit,
-        };
+    let t = bit_test(image, visited);
+    if t.number != 0 {
+        return t;
     }
     let free = be32(image, 40) as u64;
     if (nodes as u64) + free != be32(image, 36) as u64 {
-        return Verdict {
-            number: 10,
-            place: 0,
-        };
+        return at_node(10, 0);
     }
-    Verdict {
-        number: 0,
-        place: 0,
-    }
+    at_node(0, 0)
 }

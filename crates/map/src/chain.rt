@@ -1,11 +1,13 @@
 // Test 3: the map chain.
 ghost use mathlib.Core.Path.{_≡_};
 ghost use Prim.Native.Nat.{_≤_};
+ghost use Rattle.btree.specs.Places.{nodePlace};
 ghost use Rattle.btree.specs.Decide.{says};
 ghost use Rattle.btree.specs.Header.{totalOf};
 ghost use Rattle.btree.specs.Tests.{decMapNode};
 ghost use Rattle.hfs.specs.Hfs.{hfs};
 ghost use Rattle.map.specs.Frame.{ChainOf};
+use btree::Place;
 use hfs::header::descriptor_right;
 use hfs::node::forward_of;
 use hfs::node::word_from_end;
@@ -20,7 +22,7 @@ pub struct Chain {
     pub visited: Visited,
     pub nodes: u32,
     pub number: u32,
-    pub place: u32,
+    pub place: Place,
 }
 
 fn map_node_right(image: &[u8], node: u32) -> bool
@@ -35,10 +37,11 @@ fn map_node_right(image: &[u8], node: u32) -> bool
     word_from_end(image, node, 2) == 0x000E
 }
 
-// The chain's walk stops at a fault.
-fn faulty(visited: Visited, nodes: u32, place: u32) -> Chain
-    ensures { λ r. ⌜ (r .number ≡ 3) × (r .place ≡ place) ⌝ }
+// The chain's walk stops at a node.
+fn faulty(visited: Visited, nodes: u32, node: u32) -> Chain
+    ensures { λ r. ⌜ (r .number ≡ 3) × (r .place ≡ nodePlace node) ⌝ }
 {
+    let place = Place { node, offset: 0 };
     Chain {
         visited,
         nodes,
@@ -83,6 +86,6 @@ pub fn map_chain(image: &[u8]) -> Chain
         visited,
         nodes,
         number: 0,
-        place: 0,
+        place: Place { node: 0, offset: 0 },
     }
 }

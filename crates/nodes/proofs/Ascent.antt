@@ -1,13 +1,16 @@
--- The test that a node's keys ascend, as the code makes it: one key after another, the next not below `next`.
+-- The search for the first key of a node that does not rise, as the code makes it: one key after another, the next not below `next`.
 -- Assumes nothing.
 use mathlib.Core.Path.{_≡_, refl, sym, ap}
 use mathlib.Core.Option.{Option}
 use Prim.Native.Nat.{ℕ, zero, suc, _+_, pred, _<_, _≤_}
 use native.Mathlib.Omega.{arith}
 use native.Mathlib.Decide.{ℕ-discrete}
+use Rattle.btree.specs.declared.Hit.the-variants.{At, Nowhere}
+use Rattle.btree.specs.Hits.{hitOf}
 use Rattle.btree.specs.Tree.{View}
 use Rattle.btree.specs.Walk.{Under}
-use Rattle.btree.specs.Keys.{Rises}
+use Rattle.btree.specs.Keys.{Rises, decRises, firstFall}
+use Rattle.btree.proofs.Decisions.{none-not, not-first}
 
 -- the first i keys rise
 pub record Upto (v : View) (hi : Option ℕ) (n i next : ℕ) : Type 0 where
@@ -40,3 +43,12 @@ module _ (v : View) (hi : Option ℕ) (n : ℕ) where
         go : (k : ℕ) → i ≡ k → ⊥
         go zero e = let a = u .start e in omega arith
         go (suc k) e = let a = u .after k (sym e) in let b = r .0 (omega arith) in let d = ap (key n) e in let c = ap (λ j. key n (pred j)) e in omega arith
+
+    -- so the first that does not rise is i, or none where there are no more
+    pub upto-hit : i < v .count n → (Rises v hi n i → ⊥) → At i ≡ hitOf (firstFall v hi n)
+    unfolding firstFall
+    upto-hit h r = ap hitOf (sym (not-first (decRises v hi n) i 0 (v .count n) (omega arith) (omega arith) (λ j l. u .rise j) r))
+
+    pub upto-all : v .count n ≤ i → Nowhere ≡ hitOf (firstFall v hi n)
+    unfolding firstFall
+    upto-all h = ap hitOf (sym (none-not (decRises v hi n) 0 (v .count n) (λ j l w. u .rise j (omega arith))))

@@ -2,8 +2,9 @@
 ghost use mathlib.Core.Path.{_≡_};
 ghost use Rattle.btree.specs.Decide.{says};
 ghost use Rattle.nodes.specs.Whole.{decWholeLeaf};
+use btree::Hit;
 use form::records_right;
-use order::keys_ordered;
+use order::wrong_key;
 
 pub mod form;
 pub mod order;
@@ -15,5 +16,10 @@ pub fn is_whole(image: &[u8], node: u32) -> bool
     if !records_right(image, node, 255) {
         return false;
     }
-    keys_ordered(image, node, 72_057_594_037_927_936, 72_057_594_037_927_936)
+    // No key points at it, and none bounds it.
+    let none: u64 = 72_057_594_037_927_936;
+    match wrong_key(image, node, none, none) {
+        Hit::At(_) => false,
+        Hit::Nowhere => true,
+    }
 }

@@ -1,11 +1,12 @@
 // Test 6: the order of a node's keys, and the key that points at it.
 ghost use mathlib.Core.Path.{_≡_};
-ghost use Rattle.btree.specs.Decide.{says};
-ghost use Rattle.btree.specs.Walk.{decOrdered};
-ghost use Rattle.btree.specs.Keys.{AllRise, FirstMeets};
+ghost use Rattle.btree.specs.Hits.{hitOf};
+ghost use Rattle.btree.specs.Walk.{wrongKey};
+ghost use Rattle.btree.specs.Keys.{firstFall, FirstMeets};
 ghost use Rattle.formats.specs.Format.{view};
 ghost use Rattle.nodes.specs.Tells.{Tells};
 ghost use Rattle.nodes.specs.Bound.{bound};
+use btree::Hit;
 use formats::key::key_at;
 use formats::records::key_of;
 use formats::records::record_at;
@@ -25,9 +26,9 @@ fn first_meets(image: &[u8], node: u32, low: u64) -> bool
     key_of(image, node, 0) == low
 }
 
-// The keys strictly ascend, below `high`.
-fn keys_rise(image: &[u8], node: u32, high: u64) -> bool
-    ensures { λ r. ⌜ Tells r (AllRise (view (now (image .entry))) (bound high) node) ⌝ }
+// The first record whose key is not above the one before and below `high`.
+fn first_fall(image: &[u8], node: u32, high: u64) -> Hit
+    ensures { λ r. ⌜ r ≡ hitOf (firstFall (view (now (image .entry))) (bound high) node) ⌝ }
 {
     let c = count_of(image, node);
     let step = record_step(image, node);
@@ -37,25 +38,24 @@ fn keys_rise(image: &[u8], node: u32, high: u64) -> bool
     while i < c {
         let key = key_at(image, at);
         if key < next {
-            return false;
+            return Hit::At(i);
         }
         if key >= high {
-            return false;
+            return Hit::At(i);
         }
         next = key + 1;
         at += step;
         i += 1;
     }
-    true
+    Hit::Nowhere
 }
 
-// Test 6. Keys that ascend from the one that points at the node are not below it, so no other is held against it.
-pub fn keys_ordered(image: &[u8], node: u32, low: u64, high: u64) -> bool
-    ensures { λ r. ⌜ r ≡ says (decOrdered (view (now (image .entry))) (bound low) (bound high) node) ⌝ }
+// Test 6: the first record whose key is not right. Keys that ascend from the one that points at the node are not below it, so no other is held against it.
+pub fn wrong_key(image: &[u8], node: u32, low: u64, high: u64) -> Hit
+    ensures { λ r. ⌜ r ≡ hitOf (wrongKey (view (now (image .entry))) (bound low) (bound high) node) ⌝ }
 {
-    // The loop comes first: where its answer is the function's, it compiles to more instructions for each key.
-    if !keys_rise(image, node, high) {
-        return false;
+    if !first_meets(image, node, low) {
+        return Hit::At(0);
     }
-    first_meets(image, node, low)
+    first_fall(image, node, high)
 }

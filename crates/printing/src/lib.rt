@@ -1,4 +1,4 @@
-// Prints the listing of an image, or of what can be read from a descriptor.
+// Prints the listing of an image, or of what can be read from a descriptor; and the verdict on an image that has a name.
 use extents::check;
 use lines::print;
 use lines::print_count;
@@ -38,6 +38,13 @@ pub fn print_listing(image: &[u8]) {
     let rows = row_count(image);
     print_rows(image, rows);
     print_count(rows);
+}
+
+// A name, and the verdict on its image.
+pub fn print_case(name: &[u8], image: &[u8]) {
+    print(name);
+    print(b": ");
+    print_verdict(check(image));
 }
 
 // A short read is the end or an error, and only another read tells which.

@@ -14,7 +14,10 @@ pub fn print_verdict(v: Verdict) {
     print(b"verdict ");
     print_number(v.number);
     print(b" ");
-    print_number(v.place);
+    let place = v.place;
+    print_number(place.node);
+    print(b" ");
+    print_number(place.offset);
     print(b"\n");
 }
 

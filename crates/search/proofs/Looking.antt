@@ -1,35 +1,24 @@
 -- The search for a key as the code makes it: record after record of a node, node after node of an image.
 -- Assumes nothing.
-use mathlib.Core.Path.{_≡_, refl, ap}
+use mathlib.Core.Path.{_≡_}
 use mathlib.Core.Logic.{_≢_}
 use mathlib.Core.Bool.{true, false}
-use mathlib.Core.Option.{Option, none, some}
+use mathlib.Core.Option.{none, some}
 use mathlib.Core.List.{List}
 use Prim.Native.Nat.{ℕ, _+_, _-_, _<_, _≤_}
-use native.Mathlib.Omega.{arith}
 use native.Mathlib.Decide.{ℕ-discrete}
 use native.Mathlib.Numerals.{add-one}
 use Rattle.btree.specs.declared.Salvage.the-variants.{Seen, NotSeen}
+use Rattle.btree.specs.Places.{recordPlace}
 use Rattle.btree.specs.Decide.{says}
 use Rattle.btree.specs.Tree.{View}
 use Rattle.btree.specs.Header.{viewOf}
 use Rattle.btree.specs.Search.{recordWith}
 use Rattle.btree.proofs.Decisions.{cond-yes, cond-no, said, unsaid}
-use Rattle.search.specs.declared.place.Place.the-variants.{At, Nowhere}
 use Rattle.formats.specs.Format.{view}
 use Rattle.nodes.specs.Whole.{decWholeLeaf}
 use Rattle.search.specs.Seen.{seenIn, seenFrom}
-use Rattle.search.specs.Place.{placeOf}
 use Rattle.btree.proofs.Left.{one-more, none-left}
-
--- what the code's answer says of the search
-pub place-at : (o : Option ℕ) (i : ℕ) → placeOf o ≡ At i → o ≡ some i
-place-at none i e = absurd (let z : _≡_ {A = ℕ} 0 1 = cc in omega arith)
-place-at (some j) i e = let z : j ≡ i = cc in ap some z
-
-pub place-nowhere : (o : Option ℕ) → placeOf o ≡ Nowhere → o ≡ none
-place-nowhere none e = refl
-place-nowhere (some j) e = absurd (let z : _≡_ {A = ℕ} 0 1 = cc in omega arith)
 
 -- the records of a node from i on
 module _ (v : View) (n k c i : ℕ) where
@@ -58,7 +47,7 @@ module _ (img : List ℕ) (k total n : ℕ) where
   unfolding seenFrom
   seen-end h = rw (none-left total n h)
 
-  pub seen-here : (i : ℕ) → n < total → seenIn img k n ≡ some i → seenFrom img k n (total - n) ≡ Seen n i
+  pub seen-here : (i : ℕ) → n < total → seenIn img k n ≡ some i → seenFrom img k n (total - n) ≡ Seen (recordPlace (view img) n i)
   unfolding seenFrom
   seen-here i h e = rw (one-more total n h, e)
 

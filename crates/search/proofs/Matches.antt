@@ -1,20 +1,22 @@
 -- The first of the nodes that count and have a key, among as many as are searched.
 -- Assumes nothing.
-use mathlib.Core.Path.{_≡_, refl, sym}
+use mathlib.Core.Path.{_≡_, refl, sym, ap, subst, _∙_}
 use mathlib.Core.Logic.{_↔_}
 use mathlib.Core.Option.{Option, none, some}
 use mathlib.Core.List.{List}
 use Prim.Native.Nat.{ℕ, zero, suc, _+_, _-_, _<_, _≤_}
 use native.Mathlib.Omega.{arith}
 use native.Mathlib.Decide.{ℕ-discrete, decLt}
+use Rattle.btree.specs.declared.Place.{Place}
 use Rattle.btree.specs.declared.Salvage.{Salvage}
 use Rattle.btree.specs.declared.Salvage.the-variants.{Seen, NotSeen, Refused}
+use Rattle.btree.specs.Places.{recordPlace}
 use Rattle.btree.specs.Decide.{cond}
 use Rattle.btree.specs.Header.{countOf, viewOf}
 use Rattle.btree.specs.Search.{recordWith}
 use Rattle.btree.proofs.Answers.{with-some, with-before, with-none}
 use Rattle.hfs.specs.Hfs.{hfs}
-use Rattle.formats.specs.Format.{keyOf, view}
+use Rattle.formats.specs.Format.{view}
 use Rattle.nodes.specs.Whole.{WholeLeaf, decWholeLeaf}
 use Rattle.search.specs.Seen.{seenIn, seenOr, seenFrom, First}
 
@@ -22,10 +24,10 @@ use Rattle.search.specs.Seen.{seenIn, seenOr, seenFrom, First}
 pub record Has (img : List ℕ) (k n i : ℕ) : Type 0 where
   pub counts : WholeLeaf img n
   pub inside : i < countOf hfs img n
-  pub isKey : keyOf img n i ≡ k
+  pub isKey : view img .key n i ≡ k
 
 module _ (img : List ℕ) (k : ℕ) where
-  seen-some : (n i : ℕ) → seenIn img k n ≡ some i → Has img k n i × ((j : ℕ) → j < i → Has img k n j → ⊥)
+  pub seen-some : (n i : ℕ) → seenIn img k n ≡ some i → Has img k n i × ((j : ℕ) → j < i → Has img k n j → ⊥)
   unfolding seenIn viewOf
   seen-some n i = go (decWholeLeaf img n)
     where
@@ -45,8 +47,9 @@ module _ (img : List ℕ) (k : ℕ) where
 
   -- what `seenFrom` finds among as many nodes as are left from n on
   abbrev From : ℕ → ℕ → Salvage → Type 0
-  From n left (Seen m i) =
-      (n ≤ m) × (m < n + left) × Has img k m i × ((j : ℕ) → j < i → Has img k m j → ⊥) × ((l j : ℕ) → n ≤ l → l < m → Has img k l j → ⊥)
+  From n left (Seen p) =
+      (m : ℕ) × (i : ℕ) × (recordPlace (view img) m i ≡ p)
+      × (n ≤ m) × (m < n + left) × Has img k m i × ((j : ℕ) → j < i → Has img k m j → ⊥) × ((l j : ℕ) → n ≤ l → l < m → Has img k l j → ⊥)
   From n left NotSeen = (l j : ℕ) → n ≤ l → l < n + left → Has img k l j → ⊥
   From n left (Refused a b) = ⊥
 
@@ -62,58 +65,64 @@ module _ (img : List ℕ) (k : ℕ) where
           here (yes q) = seen-none n e j (rw q at h)
           here (no q) = f l j (omega arith) v h
 
-      go : (o : Option ℕ) → seenIn img k n ≡ o → (r : Salvage) → From (suc n) left r → From n (suc left) (seenOr n o r)
-      go (some i) e r f = let (a, b) = seen-some n i e in (omega arith, omega arith, a, b, λ l j u v h. absurd (omega arith))
-      go none e (Seen m i) (a, b, c, d, f) = (omega arith, omega arith, c, d, past e m f)
+      go : (o : Option ℕ) → seenIn img k n ≡ o → (r : Salvage) → From (suc n) left r → From n (suc left) (seenOr img n o r)
+      go (some i) e r f = let (a, b) = seen-some n i e in (n, i, refl, omega arith, omega arith, a, b, λ l j u v h. absurd (omega arith))
+      go none e (Seen p) (m, i, q, a, b, c, d, f) = (m, i, q, omega arith, omega arith, c, d, past e m f)
       go none e NotSeen f = past e (n + suc left) (λ l j u v. f l j u (omega arith))
       go none e (Refused a b) f = f
 
   -- the matches from node 1 up, of `total` nodes, in any words
   module _ (total : ℕ) (P : ℕ → ℕ → Type 0) (same : (n i : ℕ) → P n i ↔ ((1 ≤ n) × (n < total) × Has img k n i)) where
-    one-first : (n i m j : ℕ) → First P n i → First P m j → Dec (n < m) → Dec (m < n) → Dec (i < j) → Dec (j < i) → Seen n i ≡ Seen m j
+    -- a first match that starts at p
+    abbrev FirstAt : Place → Type 0
+    FirstAt p = (n : ℕ) × (i : ℕ) × First P n i × (recordPlace (view img) n i ≡ p)
+
+    one-first : (n i m j : ℕ) → First P n i → First P m j → Dec (n < m) → Dec (m < n) → Dec (i < j) → Dec (j < i) → recordPlace (view img) n i ≡ recordPlace (view img) m j
     one-first n i m j a b (yes l) y z w = absurd (b .noneEarlier n i l (a .here))
     one-first n i m j a b (no x) (yes l) z w = absurd (a .noneEarlier m j l (b .here))
     one-first n i m j a b (no x) (no y) z w = let e : n ≡ m = omega arith in inside e z w
       where
-        inside : n ≡ m → Dec (i < j) → Dec (j < i) → Seen n i ≡ Seen m j
+        inside : n ≡ m → Dec (i < j) → Dec (j < i) → recordPlace (view img) n i ≡ recordPlace (view img) m j
         inside e (yes l) v = absurd (b .noneInNode i l (rw e at (a .here)))
         inside e (no u) (yes l) = absurd (a .noneInNode j l (rw (sym e) at (b .here)))
         inside e (no u) (no v) = let f : i ≡ j = omega arith in rw (e, f)
 
-    first-of : (r : Salvage) → From 1 (total - 1) r → ((n i : ℕ) → r ≡ Seen n i → First P n i) × (r ≡ NotSeen → (n i : ℕ) → P n i → ⊥)
-    first-of (Seen m j) (a, b, c, d, f) = (λ n i e. let x : m ≡ n = cc in let y : j ≡ i = cc in rw (← x, ← y) first, λ e. absurd (let z : _≡_ {A = ℕ} 0 1 = cc in omega arith))
+    first-of : (p : Place) → From 1 (total - 1) (Seen p) → FirstAt p
+    first-of p (m, j, q, a, b, c, d, f) = (m, j, first, q)
       where
         first : First P m j
         first =
             record {
               here = same m j .1 (a, omega arith, c);
-              noneInNode = λ i l p. d i l (same m i .0 p .2);
-              noneEarlier = λ l i u p. let (x, y, h) = same l i .0 p in f l i x u h;
+              noneInNode = λ i l h. d i l (same m i .0 h .2);
+              noneEarlier = λ l i u h. let (x, y, z) = same l i .0 h in f l i x u z;
             }
-    first-of NotSeen f = (λ n i e. absurd (let z : _≡_ {A = ℕ} 0 1 = cc in omega arith), λ e n i p. let (x, y, h) = same n i .0 p in f n i x (omega arith) h)
-    first-of (Refused a b) f = absurd f
 
-    pub seen-iff : (n i : ℕ) → (seenFrom img k 1 (total - 1) ≡ Seen n i) ↔ First P n i
-    seen-iff n i = (first-of _ (from (total - 1) 1) .0 n i, λ p. go (seenFrom img k 1 (total - 1)) (from (total - 1) 1) p)
+    none-of : From 1 (total - 1) NotSeen → (n i : ℕ) → P n i → ⊥
+    none-of f n i p = let (x, y, h) = same n i .0 p in f n i x (omega arith) h
+
+    pub seen-iff : (p : Place) → (seenFrom img k 1 (total - 1) ≡ Seen p) ↔ FirstAt p
+    seen-iff p = (λ e. first-of p (subst (From 1 (total - 1)) e (from (total - 1) 1)), λ (n, i, a, q). go n i a q (seenFrom img k 1 (total - 1)) (from (total - 1) 1))
       where
-        go : (r : Salvage) → From 1 (total - 1) r → First P n i → r ≡ Seen n i
-        go (Seen m j) f p = one-first m j n i (first-of (Seen m j) f .0 m j refl) p (decLt m n) (decLt n m) (decLt j i) (decLt i j)
-        go NotSeen f p = absurd (first-of NotSeen f .1 refl n i (p .here))
-        go (Refused a b) f p = absurd f
+        go : (n i : ℕ) → First P n i → recordPlace (view img) n i ≡ p → (r : Salvage) → From 1 (total - 1) r → r ≡ Seen p
+        go n i a q (Seen o) f =
+            let (m, j, b, e) = first-of o f in ap Seen (sym e ∙ one-first m j n i b a (decLt m n) (decLt n m) (decLt j i) (decLt i j) ∙ q)
+        go n i a q NotSeen f = absurd (none-of f n i (a .here))
+        go n i a q (Refused c d) f = absurd f
 
     pub notSeen-iff : (seenFrom img k 1 (total - 1) ≡ NotSeen) ↔ ((n i : ℕ) → P n i → ⊥)
-    notSeen-iff = (first-of _ (from (total - 1) 1) .1, λ f. go f (seenFrom img k 1 (total - 1)) (from (total - 1) 1))
+    notSeen-iff = (λ e. none-of (subst (From 1 (total - 1)) e (from (total - 1) 1)), λ f. go f (seenFrom img k 1 (total - 1)) (from (total - 1) 1))
       where
         go : ((n i : ℕ) → P n i → ⊥) → (r : Salvage) → From 1 (total - 1) r → r ≡ NotSeen
-        go g (Seen m j) f = absurd (g m j (first-of (Seen m j) f .0 m j refl .here))
+        go g (Seen p) f = let (m, j, a, _) = first-of p f in absurd (g m j (a .here))
         go g NotSeen f = refl
         go g (Refused a b) f = absurd f
 
     -- where there is a match, the first is seen
-    pub some-seen : (n i : ℕ) → P n i → (m : ℕ) × (j : ℕ) × (seenFrom img k 1 (total - 1) ≡ Seen m j) × First P m j
+    pub some-seen : (n i : ℕ) → P n i → (m : ℕ) × (j : ℕ) × (seenFrom img k 1 (total - 1) ≡ Seen (recordPlace (view img) m j)) × First P m j
     some-seen n i p = go (seenFrom img k 1 (total - 1)) (from (total - 1) 1)
       where
-        go : (r : Salvage) → From 1 (total - 1) r → (m : ℕ) × (j : ℕ) × (r ≡ Seen m j) × First P m j
-        go (Seen m j) f = (m, j, refl, first-of (Seen m j) f .0 m j refl)
-        go NotSeen f = absurd (first-of NotSeen f .1 refl n i p)
+        go : (r : Salvage) → From 1 (total - 1) r → (m : ℕ) × (j : ℕ) × (r ≡ Seen (recordPlace (view img) m j)) × First P m j
+        go (Seen o) f = let (m, j, a, q) = first-of o f in (m, j, ap Seen (sym q), a)
+        go NotSeen f = absurd (none-of f n i p)
         go (Refused a b) f = absurd f

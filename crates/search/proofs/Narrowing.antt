@@ -9,11 +9,12 @@ use native.Mathlib.Nat.{sub-zero}
 use native.Mathlib.Decide.{ℕ-discrete}
 use Rattle.btree.specs.declared.Answer.the-variants.{Found, Absent}
 use Rattle.btree.specs.declared.Halved.{Halved}
+use Rattle.btree.specs.Places.{recordPlace}
 use Rattle.btree.specs.Tree.{View}
 use Rattle.btree.specs.Halving.{comparedOnce, halvedFrom, halved, before}
-use Rattle.btree.specs.Search.{inLeaf, withKey}
+use Rattle.btree.specs.Search.{inLeaf, halvedIn, withKey}
 use Rattle.btree.proofs.Decisions.{cond-yes, cond-no}
-use Rattle.btree.proofs.Halving.{halved-end, halved-after, halved-before, few}
+use Rattle.btree.proofs.Halving.{halved-end, halved-after, halved-before, halved-inside, few}
 
 module _ (key : ℕ → ℕ) (k c : ℕ) where
   -- what is left of c records, and the keys compared so far, give what all give
@@ -74,12 +75,17 @@ pub before-some : (a : ℕ) → a ≢ 0 → before a ≡ some (a - 1)
 before-some zero h = absurd (h refl)
 before-some (suc i) h = let e : suc i - 1 ≡ i = omega arith in ap some (sym e)
 
+-- halving ends among a node's records
+pub ends-inside : (v : View) (k n : ℕ) (r : Halved) → r ≡ halvedIn v k n → r .end ≤ v .count n
+unfolding halvedIn
+ends-inside v k n r e = rw e (halved-inside (v .key n) k (v .count n))
+
 -- what the leaf n says where halving ends at a
 module _ (v : View) (k n a : ℕ) where
   pub leaf-none : a ≡ 0 → Absent n ≡ inLeaf v n (withKey v k n (before a))
   leaf-none e = rw (before-none a e)
 
-  pub leaf-has : a ≢ 0 → v .key n (a - 1) ≡ k → Found n (a - 1) ≡ inLeaf v n (withKey v k n (before a))
+  pub leaf-has : a ≢ 0 → v .key n (a - 1) ≡ k → Found (recordPlace v n (a - 1)) ≡ inLeaf v n (withKey v k n (before a))
   leaf-has h e = rw (before-some a h, cond-yes (ℕ-discrete (v .key n (a - 1)) k) _ _ e)
 
   pub leaf-other : a ≢ 0 → v .key n (a - 1) ≢ k → Absent n ≡ inLeaf v n (withKey v k n (before a))

@@ -5,6 +5,7 @@ use mathlib.Core.List.{List}
 use Prim.Native.Nat.{ℕ, zero, suc, _<_}
 use Rattle.btree.specs.declared.Salvage.{Salvage}
 use Rattle.btree.specs.declared.Salvage.the-variants.{Seen, NotSeen}
+use Rattle.btree.specs.Places.{recordPlace}
 use Rattle.btree.specs.Decide.{cond}
 use Rattle.btree.specs.Header.{countOf}
 use Rattle.btree.specs.Search.{recordWith}
@@ -16,14 +17,15 @@ use Rattle.nodes.specs.Whole.{decWholeLeaf}
 unfoldable pub seenIn : List ℕ → ℕ → ℕ → Option ℕ
 seenIn img k n = cond (decWholeLeaf img n) (recordWith (view img) n k 0 (countOf hfs img n)) none
 
-abbrev pub seenOr : ℕ → Option ℕ → Salvage → Salvage
-seenOr n none r = r
-seenOr n (some i) r = Seen n i
+-- W-208: "Found and seen give the record's start"
+abbrev pub seenOr : List ℕ → ℕ → Option ℕ → Salvage → Salvage
+seenOr img n none r = r
+seenOr img n (some i) r = Seen (recordPlace (view img) n i)
 
 -- the first node from n on, of as many as are left, that counts and has the key k: "The first match is seen"
 unfoldable pub seenFrom : List ℕ → ℕ → ℕ → ℕ → Salvage
 seenFrom img k n zero = NotSeen
-seenFrom img k n (suc left) = seenOr n (seenIn img k n) (seenFrom img k (suc n) left)
+seenFrom img k n (suc left) = seenOr img n (seenIn img k n) (seenFrom img k (suc n) left)
 
 -- "The first match is seen": among matches in any words, record i of the node n comes first
 pub record First (P : ℕ → ℕ → Type 0) (n i : ℕ) : Type 0 where

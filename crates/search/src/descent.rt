@@ -1,5 +1,6 @@
 // The descent from the root to a leaf.
 ghost use mathlib.Core.Path.{_≡_};
+ghost use Prim.Native.Nat.{_≤_};
 ghost use Rattle.btree.specs.Halving.{before};
 ghost use Rattle.btree.specs.Search.{inLeaf, withKey, descentOf};
 ghost use Rattle.formats.specs.Format.{view};
@@ -10,6 +11,7 @@ use btree::Lookup;
 use btree::Path;
 use formats::records::child_of;
 use formats::records::key_of;
+use formats::records::record_place;
 use image::bytes::be16;
 use image::bytes::be32;
 
@@ -27,13 +29,14 @@ fn absent(nodes: [u32; 8], len: u32, node: u32, compared: u32) -> Lookup
 
 // What a leaf says of the key where halving ends here: the record before the end may have it.
 fn in_leaf(image: &[u8], k: u64, node: u32, end: u32) -> Answer
+    requires { ⌜ end ≤ view (now image) .count node ⌝ }
     ensures { λ r. ⌜ r ≡ inLeaf (view (now (image .entry))) node (withKey (view (now (image .entry))) k node (before end)) ⌝ }
 {
     if end == 0 {
         return Answer::Absent(node);
     }
     if key_of(image, node, end - 1) == k {
-        return Answer::Found(node, end - 1);
+        return Answer::Found(record_place(image, node, end - 1));
     }
     Answer::Absent(node)
 }

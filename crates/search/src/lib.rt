@@ -1,5 +1,5 @@
 // The search for a key: in a node, from the root down, and node after node of a damaged image.
 pub mod descent;
 pub mod halving;
-pub mod place;
+pub mod record;
 pub mod scan;

@@ -2,18 +2,19 @@
 ghost use mathlib.Core.Path.{_≡_};
 ghost use Prim.Native.Nat.{_-_, _/_, _≤_};
 ghost use lib.ListN.{length};
-ghost use Rattle.search.specs.Place.{placeOf};
+ghost use Rattle.btree.specs.Hits.{hitOf};
 ghost use Rattle.search.specs.Seen.{seenIn, seenFrom};
-use super::place::Place;
-use super::place::record_with;
+use super::record::record_with;
+use btree::Hit;
 use btree::Salvage;
+use formats::records::record_place;
 use nodes::is_whole;
 
-fn seen_in(image: &[u8], node: u32, k: u64) -> Place
-    ensures { λ r. ⌜ r ≡ placeOf (seenIn (now (image .entry)) k node) ⌝ }
+fn seen_in(image: &[u8], node: u32, k: u64) -> Hit
+    ensures { λ r. ⌜ r ≡ hitOf (seenIn (now (image .entry)) k node) ⌝ }
 {
     if !is_whole(image, node) {
-        return Place::Nowhere;
+        return Hit::Nowhere;
     }
     record_with(image, node, k)
 }
@@ -26,8 +27,8 @@ pub fn first_seen(image: &[u8], k: u64) -> Salvage
     let total = (image.len() / 512) as u32;
     let mut node: u32 = 1;
     while node < total {
-        if let Place::At(i) = seen_in(image, node, k) {
-            return Salvage::Seen(node, i);
+        if let Hit::At(i) = seen_in(image, node, k) {
+            return Salvage::Seen(record_place(image, node, i));
         }
         node += 1;
     }

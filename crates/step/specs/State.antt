@@ -7,6 +7,7 @@ use lib.Dec.{eqb, ltb}
 use lib.ListN.{getD, set}
 use Rattle.image.specs.Bit.{bitOf}
 use Rattle.image.specs.Set.{withBit}
+use Rattle.btree.specs.declared.Place.{Place}
 use Rattle.btree.specs.declared.Verdict.{Verdict}
 use Rattle.btree.specs.Decide.{ifZero}
 use Rattle.btree.specs.Tree.{View}
@@ -16,8 +17,8 @@ use Rattle.nodes.specs.Bound.{bound}
 use Rattle.step.specs.declared.state.Walk.{Walk}
 
 -- a node as the code comes to it
-abbrev pub entry : ℕ → ℕ → ℕ → ℕ → ℕ → Entry
-entry n parent d low high = record { node = n; parent = parent; level = d; low = bound low; high = bound high }
+abbrev pub entry : ℕ → Place → ℕ → ℕ → ℕ → Entry
+entry n from d low high = record { node = n; from = from; level = d; low = bound low; high = bound high }
 
 -- test 4: the bits set are those of the header, the map chain and the nodes met
 unfoldable pub freshIn : ℕ → List ℕ → ℕ → Bool

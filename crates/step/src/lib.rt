@@ -2,6 +2,7 @@
 ghost use Rattle.formats.specs.Format.{view};
 ghost use Rattle.step.specs.State.{step, entry};
 ghost use Rattle.step.specs.Ready.{Ready, Gives};
+use btree::Place;
 use hfs::node::count_of;
 use image::bytes::be32;
 use node::is_fresh;
@@ -18,18 +19,18 @@ pub fn stepped(
     image: &[u8],
     w: Walk,
     node: u32,
-    parent: u32,
+    from: Place,
     level: u32,
     below: u32,
     low: u64,
     high: u64,
 ) -> Walk
     requires { ⌜ Ready (now image) level below w ⌝ }
-    ensures { λ r. ⌜ Gives r (step (view (now (image .entry))) w (entry node parent level low high)) ⌝ }
+    ensures { λ r. ⌜ Gives r (step (view (now (image .entry))) w (entry node from level low high)) ⌝ }
 {
     let fresh = is_fresh(&w.visited, be32(image, 36), node);
     let p = w.last[level as usize];
-    let t = tested(image, fresh, p, node, parent, level, low, high);
+    let t = tested(image, fresh, p, node, from, level, low, high);
     if t.number != 0 {
         return stopped_at(w, t);
     }

@@ -5,12 +5,17 @@ ghost use Rattle.btree.specs.Decide.{says};
 ghost use Rattle.btree.specs.Walk.{decLeads, test};
 ghost use Rattle.formats.specs.Format.{view};
 ghost use Rattle.step.specs.State.{freshIn, entry};
+use btree::Hit;
+use btree::Place;
 use btree::Verdict;
+use btree::at_byte;
+use btree::at_node;
+use formats::records::record_place;
 use hfs::node::back_of;
 use hfs::node::forward_of;
 use image::bytes::bit_at;
 use nodes::form::node_right;
-use nodes::order::keys_ordered;
+use nodes::order::wrong_key;
 
 // Test 4.
 pub fn is_fresh(visited: &[u8], total: u32, node: u32) -> bool
@@ -32,52 +37,38 @@ pub fn leads(image: &[u8], p: u32, node: u32) -> bool
     forward_of(image, p) == node
 }
 
-// The tests at a node: 4, 5, 6, 7. Of the walk they need whether the node is fresh, and the node met before it on its level.
+// The tests at a node whose number stands at `from`: 4, 5, 6, 7. Of the walk they need whether the node is fresh, and the node met before it on its level.
 pub fn tested(
     image: &[u8],
     fresh: bool,
     p: u32,
     node: u32,
-    parent: u32,
+    from: Place,
     level: u32,
     low: u64,
     high: u64,
 ) -> Verdict
     requires { ⌜ level < 8 ⌝ }
-    ensures { λ r. ⌜ r ≡ test (view (now (image .entry))) fresh p (entry node parent level low high) ⌝ }
+    ensures { λ r. ⌜ r ≡ test (view (now (image .entry))) fresh p (entry node from level low high) ⌝ }
 {
     if !fresh {
         return Verdict {
             number: 4,
-            place: parent,
+            place: from,
         };
     }
     if !node_right(image, node, level) {
-        return Verdict {
-            number: 5,
-            place: node,
-        };
+        return at_node(5, node);
     }
-    if !keys_ordered(image, node, low, high) {
-        return Verdict {
-            number: 6,
-            place: node, // the child, where it is the pointer key that differs
-        };
+    if let Hit::At(i) = wrong_key(image, node, low, high) {
+        let place = record_place(image, node, i);
+        return Verdict { number: 6, place };
     }
     if back_of(image, node) != p {
-        return Verdict {
-            number: 7,
-            place: node,
-        };
+        return at_byte(7, node, 4);
     }
     if !leads(image, p, node) {
-        return Verdict {
-            number: 7,
-            place: p,
-        };
+        return at_byte(7, p, 0);
     }
-    Verdict {
-        number: 0,
-        place: 0,
-    }
+    at_node(0, 0)
 }

@@ -4,6 +4,7 @@ ghost use Prim.Native.Nat.{_<_, _≤_};
 ghost use Rattle.nodes.specs.Tells.{pick};
 ghost use Rattle.step.specs.State.{stopped, firstWith, kept, lastAt};
 ghost use Rattle.step.specs.Room.{Keepable};
+use btree::Place;
 use btree::Verdict;
 
 // The nodes met, with the header and the map chain, and what the tests at the end ask of them.
@@ -18,7 +19,7 @@ pub struct Walk {
     pub nodes: u32,
     // The first fault, 0 for none.
     pub number: u32,
-    pub place: u32,
+    pub place: Place,
 }
 
 pub fn last_on(w: Walk, level: u32) -> u32
@@ -31,10 +32,18 @@ pub fn last_on(w: Walk, level: u32) -> u32
 pub fn stopped_at(w: Walk, t: Verdict) -> Walk
     ensures { λ r. ⌜ r ≡ stopped w t ⌝ }
 {
-    let mut x = w;
-    x.number = t.number;
-    x.place = t.place;
-    x
+    let visited = w.visited;
+    let last = w.last;
+    let place = t.place;
+    Walk {
+        visited,
+        last,
+        records: w.records,
+        first: w.first,
+        nodes: w.nodes,
+        number: t.number,
+        place,
+    }
 }
 
 fn first_with(leaf: bool, first: u32, node: u32) -> u32

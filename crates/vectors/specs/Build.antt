@@ -4,7 +4,7 @@ use mathlib.Core.List.{List, [], _∷_, _++_}
 use Prim.Native.Nat.{ℕ, suc, _-_, _/_, _%_}
 use lib.ListN.{length, set, replicate}
 
--- the bytes stored from place i on
+-- the bytes stored from byte i on
 abbrev pub put : ℕ → List ℕ → List ℕ → List ℕ
 put i [] img = img
 put i (b ∷ bs) img = put (suc i) bs (set img i b)
@@ -41,6 +41,14 @@ onePair first count = be16 first ++ be16 count ++ be32 0 ++ be32 0
 -- "one node, a header as above with depth 0, total 1, free 0, first map byte 80, every byte not named zero"
 abbrev pub E1 : List ℕ
 E1 = header (be16 0 ++ be32 0 ++ be32 0 ++ be32 0 ++ be32 0) 1 0x80
+
+-- "Each map node has back link 0, kind 02, level 0, one record, and ends in 01FC 000E", with its link
+abbrev pub mapNode : ℕ → List ℕ
+mapNode link = node (be32 link ++ be32 0 ++ 0x02 ∷ 0 ∷ be16 1) [] (be16 0x1FC ++ be16 0xE)
+
+-- E1's header with a link, the total, and the first map byte
+abbrev pub linkedHeader : ℕ → ℕ → ℕ → List ℕ
+linkedHeader link total mapByte = put 0 (be32 link) (header (be16 0 ++ be32 0 ++ be32 0 ++ be32 0 ++ be32 0) total mapByte)
 
 -- "links 0, FF, level 1, count 1, record 07 00 00000010 0005 0064 0003 and eight zero bytes, end 0022 000E"
 abbrev onlyLeaf : List ℕ

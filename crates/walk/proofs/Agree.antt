@@ -14,6 +14,7 @@ use lib.Seq.{getD-set-same, getD-set-other}
 use borrow.Author.Tests.{eq-eqb, ne-eqb}
 use Rattle.image.proofs.Laws.{marked-with}
 use Rattle.btree.specs.declared.Verdict.{Verdict}
+use Rattle.btree.specs.Places.{rootField}
 use Rattle.btree.specs.Lists.{_∈_}
 use Rattle.btree.specs.Decide.{cond, says, ifZero}
 use Rattle.btree.specs.Tree.{View, mapChain}
@@ -192,7 +193,7 @@ module _ (v : View) (small : v .total ≤ 6000) (shallow : v .depth ≤ 8) where
   unfolding walk finish steps
   tree-none w a e = sym (if-zero (w .number) _ _ (a .number)) ∙ ap (λ (k : ℕ). finish v (steps v w (treeEntries v k))) (sym e) ∙ tree-walk w a
 
-  module _ (w x : Walk) (a : Agrees v w []) (n : v .depth ≡ 0 → ⊥) (is : x ≡ steps v w (entries v (v .depth - 1) 0 0 none none (v .root))) where
+  module _ (w x : Walk) (a : Agrees v w []) (n : v .depth ≡ 0 → ⊥) (is : x ≡ steps v w (entries v (v .depth - 1) 0 rootField none none (v .root))) where
     found : finish v x ≡ walk v
     found = rw is (let e : v .depth ≡ suc (v .depth - 1) = omega arith in ap (λ (k : ℕ). finish v (steps v w (treeEntries v k))) (sym e) ∙ tree-walk w a)
 

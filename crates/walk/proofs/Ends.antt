@@ -7,6 +7,7 @@ use native.Mathlib.Nat.{sub-zero}
 use native.Mathlib.Numerals.{add-one}
 use lib.Dec.{eqb}
 use Rattle.btree.specs.declared.Verdict.{Verdict}
+use Rattle.btree.specs.Places.{imageStart, forwardLink}
 use Rattle.btree.specs.Tree.{View}
 use Rattle.btree.specs.Decide.{says}
 use Rattle.btree.specs.Walk.{fine, fails, unless, decLeads, decTotals, ends, closing}
@@ -17,7 +18,7 @@ use Rattle.step.specs.State.{lastAt}
 use Rattle.btree.proofs.Left.{one-more, none-left}
 
 abbrev pub rest : View → Walk → Verdict
-rest v w = unless (says (decTotals v (w .first) (lastAt w (pred (v .depth))) (w .records))) (fails 8 0) fine
+rest v w = unless (says (decTotals v (w .first) (lastAt w (pred (v .depth))) (w .records))) (fails 8 imageStart) fine
 
 pub totals-test : (v : View) (a b c : ℕ) → v .firstLeaf ≡ a → v .lastLeaf ≡ b → eqb (v .leafRecords) c ≡ says (decTotals v a b c)
 totals-test v a b c p q = says-equal (decTotals v a b c) (v .leafRecords) c (λ e. record { first = p; last = q; records = e }) (λ t. t .records)
@@ -36,6 +37,6 @@ module _ (v : View) where
     unfolding ends
     ends-on h e = rw (one-more depth d h, add-one d) (unless-true _ _ _ e)
 
-    pub ends-stop : d < depth → says (decLeads v (last d) 0) ≡ false → ends v last d (depth - d) r ≡ fails 7 (last d)
+    pub ends-stop : d < depth → says (decLeads v (last d) 0) ≡ false → ends v last d (depth - d) r ≡ fails 7 (forwardLink (last d))
     unfolding ends
     ends-stop h e = rw (one-more depth d h) (unless-false _ _ _ e)

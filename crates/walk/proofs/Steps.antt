@@ -6,6 +6,7 @@ use mathlib.Core.List.{List, [], _∷_, _++_}
 use Prim.Native.Nat.{ℕ, suc, _+_, _-_, _<_, _≤_}
 use native.Mathlib.Omega.{arith}
 use native.Mathlib.Numerals.{add-one}
+use Rattle.btree.specs.declared.Place.{Place}
 use Rattle.btree.specs.Lists.{span}
 use Rattle.btree.specs.Tree.{View}
 use Rattle.btree.specs.Walk.{Entry, entries}
@@ -29,25 +30,25 @@ module _ (v : View) where
   steps-stuck w [] h = refl
   steps-stuck w (x ∷ es) h = rw (step-stuck v w x h) (steps-stuck w es h)
 
-  module _ (w : Walk) (b d pa : ℕ) (lo hi : Option ℕ) (n : ℕ) where
-    pub steps-leaf : b ≡ 0 → steps v w (entries v b d pa lo hi n) ≡ step v w (record { node = n; parent = pa; level = d; low = lo; high = hi })
+  module _ (w : Walk) (b d : ℕ) (from : Place) (lo hi : Option ℕ) (n : ℕ) where
+    pub steps-leaf : b ≡ 0 → steps v w (entries v b d from lo hi n) ≡ step v w (record { node = n; from = from; level = d; low = lo; high = hi })
     unfolding steps
     steps-leaf e = rw e
 
     pub steps-index : (b ≡ 0 → ⊥)
-        → steps v w (entries v b d pa lo hi n)
-        ≡ steps v (step v w (record { node = n; parent = pa; level = d; low = lo; high = hi })) (span 0 (v .count n) (kid v (b - 1) d hi n))
+        → steps v w (entries v b d from lo hi n)
+        ≡ steps v (step v w (record { node = n; from = from; level = d; low = lo; high = hi })) (span 0 (v .count n) (kid v (b - 1) d hi n))
     unfolding steps
-    steps-index h = let e : b ≡ suc (b - 1) = omega arith in ap (λ (k : ℕ). steps v w (entries v k d pa lo hi n)) e
+    steps-index h = let e : b ≡ suc (b - 1) = omega arith in ap (λ (k : ℕ). steps v w (entries v k d from lo hi n)) e
 
   pub kids-end : (f : ℕ → List Entry) (w : Walk) (c i : ℕ) → c ≤ i → steps v w (span i (c - i) f) ≡ w
   unfolding steps
   kids-end f w c i h = rw (none-left c i h)
 
   pub kids-on : (h d n high : ℕ) (w r : Walk) (c i : ℕ) (p : Pointer) → i < c → Points v n i high p
-      → r ≡ steps v w (entries v h (d + 1) n (bound (p .low)) (bound (p .high)) (p .child))
+      → r ≡ steps v w (entries v h (d + 1) (p .from) (bound (p .low)) (bound (p .high)) (p .child))
       → steps v w (span i (c - i) (kid v h d (bound high) n)) ≡ steps v r (span (i + 1) (c - (i + 1)) (kid v h d (bound high) n))
   kids-on h d n high w r c i p l q e =
       ap (λ (k : ℕ). steps v w (span i k (kid v h d (bound high) n))) (one-more c i l)
       ∙ steps-append w (kid v h d (bound high) n i) (span (suc i) (c - (i + 1)) (kid v h d (bound high) n))
-      ∙ rw (e, q .child, q .low, q .under, add-one d, add-one i)
+      ∙ rw (e, q .child, q .from, q .low, q .under, add-one d, add-one i)

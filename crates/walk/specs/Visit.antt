@@ -4,6 +4,7 @@ use mathlib.Core.Path.{_≡_}
 use mathlib.Core.Option.{some}
 use mathlib.Core.List.{List, [], _∷_}
 use Prim.Native.Nat.{ℕ}
+use Rattle.btree.specs.Places.{childPlace}
 use Rattle.btree.specs.Tree.{View}
 use Rattle.btree.specs.Walk.{Entry, above}
 use Rattle.nodes.specs.Bound.{bound}
@@ -15,8 +16,9 @@ unfoldable pub steps : View → Walk → List Entry → Walk
 steps v w [] = w
 steps v w (e ∷ es) = steps v (step v w e) es
 
--- record i of a node: its child, the key that points there, and the bound of the keys there
+-- record i of a node: its child and where the child's number stands, the key that points there, and the bound of the keys there
 pub record Points (v : View) (n i high : ℕ) (p : Pointer) : Type 0 where
   pub child : p .child ≡ v .child n i
+  pub from : p .from ≡ childPlace v n i
   pub low : bound (p .low) ≡ some (v .key n i)
   pub under : bound (p .high) ≡ above v n i (bound high)

@@ -6,6 +6,8 @@ ghost use Rattle.btree.specs.Walk.{decTotals, closing};
 ghost use Rattle.formats.specs.Format.{view};
 ghost use Rattle.step.specs.State.{lastAt};
 use btree::Verdict;
+use btree::at_byte;
+use btree::at_node;
 use image::bytes::be16;
 use image::bytes::be32;
 use step::node::leads;
@@ -46,22 +48,13 @@ pub fn closing_tests(image: &[u8], w: Walk) -> Verdict
     while d < depth {
         let p = last_on(w, d);
         if !leads(image, p, 0) {
-            return Verdict {
-                number: 7,
-                place: p,
-            };
+            return at_byte(7, p, 0);
         }
         d += 1;
     }
     let last = last_leaf(w, depth);
     if !totals_right(image, w.first, last, w.records) {
-        return Verdict {
-            number: 8,
-            place: 0,
-        };
+        return at_node(8, 0);
     }
-    Verdict {
-        number: 0,
-        place: 0,
-    }
+    at_node(0, 0)
 }

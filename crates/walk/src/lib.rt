@@ -1,5 +1,6 @@
 // Tests 4 to 8: the walk of the tree, and the tests at its end.
 ghost use Rattle.walk.specs.Outcome.{Begins, Ends};
+use btree::Place;
 use closing::closing_tests;
 use image::bytes::be16;
 use image::bytes::be32;
@@ -24,7 +25,7 @@ pub fn tree_tests(image: &[u8], visited: Visited, nodes: u32) -> Walk
         first: 0,
         nodes,
         number: 0,
-        place: 0,
+        place: Place { node: 0, offset: 0 },
     };
     let depth = be16(image, 14);
     if depth == 0 {
@@ -34,7 +35,11 @@ pub fn tree_tests(image: &[u8], visited: Visited, nodes: u32) -> Walk
     let root = be32(image, 16);
     // No key points at the root, and none bounds it.
     let none: u64 = 72_057_594_037_927_936;
-    let x = visit(image, w, root, 0, 0, depth - 1, none, none);
+    let root_field = Place {
+        node: 0,
+        offset: 16,
+    };
+    let x = visit(image, w, root, root_field, 0, depth - 1, none, none);
     if x.number != 0 {
         return x;
     }

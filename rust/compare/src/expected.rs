@@ -1,20 +1,22 @@
 //! What the reference says, in the words of the proved reader.
 
-use hfs_btree::{Answer, Lookup, Salvage, SalvageAnswer, Verdict};
+use hfs_btree::{Answer, Lookup, Place, Salvage, SalvageAnswer, Verdict};
 use images::Key;
 use std::ops::Range;
 
 pub fn check(image: &[u8]) -> Verdict {
-    let reference::Verdict { number, place } = reference::check(image);
-    Verdict { number, place }
+    let reference::Verdict { number, place: said } = reference::check(image);
+    Verdict { number, place: place(said) }
 }
 
 pub fn lookup(image: &[u8], key: Key) -> Lookup {
     let said = reference::lookup(image, key.file, key.fork, key.start);
     let answer = match said.answer {
-        reference::Answer::Found { node, record } => Answer::Found { node, record },
+        reference::Answer::Found { place: said } => Answer::Found { place: place(said) },
         reference::Answer::Absent { node } => Answer::Absent { node },
-        reference::Answer::Refused { number, place } => Answer::Refused { number, place },
+        reference::Answer::Refused { number, place: said } => {
+            Answer::Refused { number, place: place(said) }
+        }
     };
     let reference::Lookup { compared, path, .. } = said;
     let path_len = said.path_len as u32;
@@ -24,13 +26,20 @@ pub fn lookup(image: &[u8], key: Key) -> Lookup {
 pub fn salvage(image: &[u8], key: Key) -> Salvage {
     let said = reference::salvage(image, key.file, key.fork, key.start);
     let answer = match said.answer {
-        reference::SalvageAnswer::Seen { node, record } => SalvageAnswer::Seen { node, record },
+        reference::SalvageAnswer::Seen { place: said } => {
+            SalvageAnswer::Seen { place: place(said) }
+        }
         reference::SalvageAnswer::NotSeen => SalvageAnswer::NotSeen,
-        reference::SalvageAnswer::Refused { number, place } => {
-            SalvageAnswer::Refused { number, place }
+        reference::SalvageAnswer::Refused { number, place: said } => {
+            SalvageAnswer::Refused { number, place: place(said) }
         }
     };
     Salvage { answer, data: data(image, said.data) }
+}
+
+fn place(said: reference::Place) -> Place {
+    let reference::Place { node, offset } = said;
+    Place { node, offset }
 }
 
 /// The proved reader copies the data where the reference says where they are.

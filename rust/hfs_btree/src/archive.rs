@@ -1,7 +1,7 @@
 //! The calls into the archive; `include/hfs_btree.h` has the same for C.
 
 extern "C" {
-    fn hfs_check(image: *const u8, len: usize, out: *mut [u32; 2]);
+    fn hfs_check(image: *const u8, len: usize, out: *mut [u32; 3]);
     fn hfs_lookup(
         image: *const u8,
         len: usize,
@@ -26,8 +26,8 @@ extern "C" {
 const UNWRITTEN: u32 = 0xDEAD_BEEF;
 const UNWRITTEN_BYTE: u8 = 0xA5;
 
-pub fn check(image: &[u8]) -> [u32; 2] {
-    let mut out = [UNWRITTEN; 2];
+pub fn check(image: &[u8]) -> [u32; 3] {
+    let mut out = [UNWRITTEN; 3];
     // SAFETY: the image is a live slice and only read, and `out` is an array of its own.
     unsafe { hfs_check(image.as_ptr(), image.len(), &mut out) };
     out

@@ -4,19 +4,35 @@
 
 mod archive;
 
-/// The first fault of an image by the order of tests, or 0 and 0 if it is sound.
+/// A byte of an image: its node, and its offset there.
+#[derive(Clone, Copy, Debug, PartialEq, Eq)]
+pub struct Place {
+    pub node: u32,
+    pub offset: u32,
+}
+
+/// The first fault of an image by the order of tests, or 0 at node 0, offset 0 if it is sound.
 #[derive(Clone, Copy, Debug, PartialEq, Eq)]
 pub struct Verdict {
     pub number: u32,
-    pub place: u32,
+    pub place: Place,
 }
 
 /// Which of found, absent or refused a lookup came to.
 #[derive(Clone, Copy, Debug, PartialEq, Eq)]
 pub enum Answer {
-    Found { node: u32, record: u32 },
-    Absent { node: u32 },
-    Refused { number: u32, place: u32 },
+    /// Where the record starts.
+    Found {
+        place: Place,
+    },
+    /// The last node read, 0 where there is none.
+    Absent {
+        node: u32,
+    },
+    Refused {
+        number: u32,
+        place: Place,
+    },
 }
 
 /// The answer to a lookup, with its search path and the record's data.
@@ -35,9 +51,15 @@ pub struct Lookup {
 /// Which of seen, not seen or refused a salvage came to.
 #[derive(Clone, Copy, Debug, PartialEq, Eq)]
 pub enum SalvageAnswer {
-    Seen { node: u32, record: u32 },
+    /// Where the record starts.
+    Seen {
+        place: Place,
+    },
     NotSeen,
-    Refused { number: u32, place: u32 },
+    Refused {
+        number: u32,
+        place: Place,
+    },
 }
 
 /// The answer to a salvage, with the record's data.
@@ -55,17 +77,18 @@ const NOT_SEEN: u32 = 14;
 
 /// Is the image sound, and if not, what is its first fault?
 pub fn check(image: &[u8]) -> Verdict {
-    let [number, place] = archive::check(image);
-    Verdict { number, place }
+    let [number, node, offset] = archive::check(image);
+    Verdict { number, place: Place { node, offset } }
 }
 
 /// What stands under a key of a sound image?
 pub fn lookup(image: &[u8], file: u32, fork: u8, start: u16) -> Lookup {
     let (out, data) = archive::lookup(image, file, fork, start);
-    let [number, place, record, compared, path_len, path @ ..] = out;
+    let [number, node, offset, compared, path_len, path @ ..] = out;
+    let place = Place { node, offset };
     let answer = match number {
-        FOUND => Answer::Found { node: place, record },
-        ABSENT => Answer::Absent { node: place },
+        FOUND => Answer::Found { place },
+        ABSENT => Answer::Absent { node },
         _ => Answer::Refused { number, place },
     };
     Lookup { answer, compared, path, path_len, data }
@@ -74,9 +97,10 @@ pub fn lookup(image: &[u8], file: u32, fork: u8, start: u16) -> Lookup {
 /// What can be seen under a key, in an image of any state? Seen proves nothing: a freed node may
 /// hold an old record.
 pub fn salvage(image: &[u8], file: u32, fork: u8, start: u16) -> Salvage {
-    let ([number, place, record], data) = archive::salvage(image, file, fork, start);
+    let ([number, node, offset], data) = archive::salvage(image, file, fork, start);
+    let place = Place { node, offset };
     let answer = match number {
-        SEEN => SalvageAnswer::Seen { node: place, record },
+        SEEN => SalvageAnswer::Seen { place },
         NOT_SEEN => SalvageAnswer::NotSeen,
         _ => SalvageAnswer::Refused { number, place },
     };

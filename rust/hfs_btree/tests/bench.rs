@@ -1,6 +1,6 @@
 //! The smallest images of the paper's bench, with the paper's answers.
 
-use hfs_btree::{check, lookup, salvage, Answer, Lookup, Salvage, SalvageAnswer, Verdict};
+use hfs_btree::{check, lookup, salvage, Answer, Lookup, Place, Salvage, SalvageAnswer, Verdict};
 use images::bench::{
     e1, e1_with_map_byte, index_with, l1, l1_with_back_link_1, leaf_with, two_leaves,
     two_leaves_with_levels, two_leaves_with_pointer,
@@ -9,17 +9,25 @@ use images::Key;
 
 const NO_DATA: [u8; 12] = [0; 12];
 
+fn at(node: u32, offset: u32) -> Place {
+    Place { node, offset }
+}
+
+fn verdict(number: u32, node: u32, offset: u32) -> Verdict {
+    Verdict { number, place: at(node, offset) }
+}
+
 fn answered(answer: Answer) -> Lookup {
     Lookup { answer, compared: 0, path: [0; 8], path_len: 0, data: NO_DATA }
 }
 
 #[test]
 fn verdicts() {
-    assert_eq!(check(&[]), Verdict { number: 1, place: 0 });
-    assert_eq!(check(&[0; 512]), Verdict { number: 2, place: 0 });
-    assert_eq!(check(&e1()), Verdict { number: 0, place: 0 });
-    assert_eq!(check(&e1_with_map_byte(0xC0)), Verdict { number: 9, place: 1 });
-    assert_eq!(check(&l1_with_back_link_1()), Verdict { number: 7, place: 1 });
+    assert_eq!(check(&[]), verdict(1, 0, 0));
+    assert_eq!(check(&[0; 512]), verdict(2, 0, 0));
+    assert_eq!(check(&e1()), verdict(0, 0, 0));
+    assert_eq!(check(&e1_with_map_byte(0xC0)), verdict(9, 0, 0xF8));
+    assert_eq!(check(&l1_with_back_link_1()), verdict(7, 1, 4));
 }
 
 #[test]
@@ -27,22 +35,22 @@ fn lookups() {
     let path = [1, 0, 0, 0, 0, 0, 0, 0];
     let data = [0x00, 0x64, 0x00, 0x03, 0, 0, 0, 0, 0, 0, 0, 0];
     let in_leaf = |answer| Lookup { compared: 1, path, path_len: 1, ..answered(answer) };
-    let found = Lookup { data, ..in_leaf(Answer::Found { node: 1, record: 0 }) };
+    let found = Lookup { data, ..in_leaf(Answer::Found { place: at(1, 14) }) };
     assert_eq!(lookup(&l1(), 16, 0x00, 5), found);
     let absent = in_leaf(Answer::Absent { node: 1 });
     assert_eq!(lookup(&l1(), 16, 0xFF, 5), absent);
     assert_eq!(lookup(&e1(), 16, 0xFF, 5), answered(Answer::Absent { node: 0 }));
-    let refused = answered(Answer::Refused { number: 11, place: 0 });
+    let refused = answered(Answer::Refused { number: 11, place: at(0, 0) });
     assert_eq!(lookup(&l1(), 16, 0x01, 5), refused);
-    let refused = answered(Answer::Refused { number: 7, place: 1 });
+    let refused = answered(Answer::Refused { number: 7, place: at(1, 4) });
     assert_eq!(lookup(&l1_with_back_link_1(), 16, 0x00, 5), refused);
 }
 
 #[test]
 fn two_levels() {
-    assert_eq!(check(&two_leaves()), Verdict { number: 0, place: 0 });
+    assert_eq!(check(&two_leaves()), verdict(0, 0, 0));
     let found = Lookup {
-        answer: Answer::Found { node: 3, record: 1 },
+        answer: Answer::Found { place: at(3, 34) },
         // The later of two keys, in the root and in leaf 3.
         compared: 1 + 1,
         path: [1, 3, 0, 0, 0, 0, 0, 0],
@@ -58,8 +66,8 @@ fn two_levels() {
     };
     assert_eq!(lookup(&two_leaves(), 16, 0x00, 4), below_every_pointer);
     let from_the_root = two_leaves_with_levels(1, 2);
-    assert_eq!(check(&from_the_root), Verdict { number: 5, place: 1 });
-    let refused = answered(Answer::Refused { number: 5, place: 1 });
+    assert_eq!(check(&from_the_root), verdict(5, 1, 0));
+    let refused = answered(Answer::Refused { number: 5, place: at(1, 0) });
     assert_eq!(lookup(&from_the_root, 17, 0x00, 0), refused);
 }
 
@@ -79,20 +87,41 @@ fn keys_compared() {
 fn pointers_that_do_not_match() {
     // In order and within all bounds, but below the first key of leaf 3.
     let below = two_leaves_with_pointer(1, Key::new(16, 0x00, 6));
-    assert_eq!(check(&below), Verdict { number: 6, place: 3 });
-    let refused = answered(Answer::Refused { number: 6, place: 3 });
+    assert_eq!(check(&below), verdict(6, 3, 14));
+    let refused = answered(Answer::Refused { number: 6, place: at(3, 14) });
     assert_eq!(lookup(&below, 16, 0xFF, 0), refused);
     let first_below = two_leaves_with_pointer(0, Key::new(16, 0x00, 4));
-    assert_eq!(check(&first_below), Verdict { number: 6, place: 2 });
+    assert_eq!(check(&first_below), verdict(6, 2, 14));
 }
 
 #[test]
 fn salvages() {
     let data = [0x00, 0x64, 0x00, 0x03, 0, 0, 0, 0, 0, 0, 0, 0];
-    let seen = Salvage { answer: SalvageAnswer::Seen { node: 1, record: 0 }, data };
+    let seen = Salvage { answer: SalvageAnswer::Seen { place: at(1, 14) }, data };
     assert_eq!(salvage(&l1_with_back_link_1(), 16, 0x00, 5), seen);
     let not_seen = Salvage { answer: SalvageAnswer::NotSeen, data: NO_DATA };
     assert_eq!(salvage(&l1(), 16, 0xFF, 5), not_seen);
-    let answer = SalvageAnswer::Refused { number: 11, place: 0 };
+    let answer = SalvageAnswer::Refused { number: 11, place: at(0, 0) };
     assert_eq!(salvage(&l1(), 16, 0x01, 5), Salvage { answer, data: NO_DATA });
+}
+
+#[test]
+fn places() {
+    // The root field of the header, the child number of the root's second record.
+    assert_eq!(check(&changed(l1(), 19, 2)), verdict(4, 0, 16));
+    assert_eq!(check(&changed(two_leaves(), 512 + 14 + 12 + 11, 2)), verdict(4, 1, 34));
+    // Leaf 3's second key made its first one: the second of the two is at fault.
+    let mut equal = two_leaves();
+    equal.copy_within(3 * 512 + 14..3 * 512 + 22, 3 * 512 + 34);
+    assert_eq!(check(&equal), verdict(6, 3, 34));
+    // A forward link is at 0, a back link at 4.
+    assert_eq!(check(&changed(two_leaves(), 2 * 512 + 3, 0)), verdict(7, 2, 0));
+    assert_eq!(check(&changed(two_leaves(), 3 * 512 + 7, 0)), verdict(7, 3, 4));
+    // The last byte of the header's map record.
+    assert_eq!(check(&changed(e1(), 0x1F7, 0x01)), verdict(9, 0, 0x1F7));
+}
+
+fn changed(mut image: Vec<u8>, at: usize, byte: u8) -> Vec<u8> {
+    image[at] = byte;
+    image
 }

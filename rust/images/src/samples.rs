@@ -13,6 +13,16 @@ pub fn three_level() -> Built {
     build(&Plan { map_nodes: 1, free_nodes: 5, ..Plan::untidy(3, &[1, 7, 105]) })
 }
 
+/// Two levels in 17 nodes, with four map nodes whose numbers fall along the chain.
+pub fn falling_map_nodes() -> Built {
+    build(&Plan {
+        records_per_leaf: 1..=6,
+        map_nodes: 4,
+        free_nodes: 6,
+        ..Plan::untidy(39, &[1, 5])
+    })
+}
+
 /// Three levels in 128 nodes, which is the longest image that is listed.
 pub fn longest_listed() -> Built {
     build(&Plan { free_nodes: 14, ..Plan::untidy(6, &[1, 4, 108]) })

@@ -19,6 +19,7 @@ pub fn catalogue() -> Vec<Sample> {
     all.push(sample("three_levels_by_hand", three_levels_by_hand()));
     all.extend(with_spoiled("two_level", samples::two_level()));
     all.extend(with_spoiled("three_level", samples::three_level()));
+    all.extend(with_spoiled("falling_map_nodes", samples::falling_map_nodes()));
     all.push(sample("longest_listed", samples::longest_listed().image));
     all.push(sample("three_level_large", samples::three_level_large().image));
     all.push(sample("largest", samples::largest().image));

@@ -3,7 +3,7 @@
 mod catalogue;
 
 use catalogue::{catalogue, Sample};
-use reference::{check, listing};
+use reference::{check, listing, Verdict};
 use std::path::{Path, PathBuf};
 use std::process::ExitCode;
 use std::{env, fs, io};
@@ -34,8 +34,8 @@ fn write_all(folder: &Path) -> io::Result<usize> {
     for Sample { name, image } in &samples {
         fs::write(folder.join(format!("{name}.img")), image)?;
         fs::write(folder.join(format!("{name}.expected")), listing(image))?;
-        let verdict = check(image);
-        verdicts += &format!("{name} {} {}\n", verdict.number, verdict.place);
+        let Verdict { number, place } = check(image);
+        verdicts += &format!("{name} {number} {} {}\n", place.node, place.offset);
     }
     fs::write(folder.join("verdicts.txt"), verdicts)?;
     Ok(samples.len())

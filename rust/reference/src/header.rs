@@ -4,6 +4,9 @@ use crate::node::{
     back_link, be16, be32, kind, level, record_count, reserved, Node, HEADER_KIND, NODE_SIZE,
 };
 
+/// Where the root's number stands in the header node.
+pub const ROOT_AT: usize = 16;
+
 const MOST_DEPTH: usize = 8;
 const OFFSET_WORDS: [u8; 8] = [0x01, 0xF8, 0x00, 0xF8, 0x00, 0x78, 0x00, 0x0E];
 
@@ -24,7 +27,7 @@ impl Header {
     pub fn read(node: &Node) -> Header {
         Header {
             depth: usize::from(be16(node, 14)),
-            root: be32(node, 16),
+            root: be32(node, ROOT_AT),
             leaf_records: be32(node, 20),
             first_leaf: be32(node, 24),
             last_leaf: be32(node, 28),

@@ -10,6 +10,8 @@ use crate::record::{key, Leaf, LeafBytes, LEAF_DATA_SIZE};
 pub struct LeafRecord {
     pub node: u32,
     pub record: u32,
+    /// The offset in the node at which the record starts.
+    pub start: u32,
     pub key: Key,
     pub data: [u8; LEAF_DATA_SIZE],
 }
@@ -42,5 +44,6 @@ pub fn leaf_records(image: &[u8]) -> Vec<LeafRecord> {
 fn read_record(node: u32, record: usize, bytes: &LeafBytes) -> LeafRecord {
     let mut data = [0; LEAF_DATA_SIZE];
     data.copy_from_slice(&bytes[KEY_SIZE..]);
-    LeafRecord { node, record: record as u32, key: key(bytes), data }
+    let start = Leaf::start(record) as u32;
+    LeafRecord { node, record: record as u32, start, key: key(bytes), data }
 }

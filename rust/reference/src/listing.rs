@@ -19,7 +19,8 @@ pub fn listing(input: &[u8]) -> String {
 
 fn write_listing(output: &mut String, image: &[u8]) -> fmt::Result {
     let verdict = check(image);
-    writeln!(output, "verdict {} {}", verdict.number, verdict.place)?;
+    let Verdict { number, place } = verdict;
+    writeln!(output, "verdict {number} {} {}", place.node, place.offset)?;
     if verdict != Verdict::SOUND {
         return Ok(());
     }

@@ -4,16 +4,19 @@ use crate::check::{open, SoundImage};
 use crate::halving::halve;
 use crate::key::{is_lawful_fork, Key};
 use crate::node::{range_in_image, Node};
+use crate::place::Place;
 use crate::record::{child, leaf_data, packed_key, Index, Leaf};
 use crate::verdict::{Verdict, ASKED_FORK};
 use std::ops::Range;
 
 /// Which of found, absent or refused a lookup came to.
+///
+/// Found has the start of the record, absent the last node read, 0 at depth 0.
 #[derive(Clone, Copy, Debug, PartialEq, Eq)]
 pub enum Answer {
-    Found { node: u32, record: u32 },
+    Found { place: Place },
     Absent { node: u32 },
-    Refused { number: u32, place: u32 },
+    Refused { number: u32, place: Place },
 }
 
 /// The answer to a lookup with its search path and the place of the data in the image.
@@ -32,7 +35,7 @@ pub struct Lookup {
 /// Looks a key up, after checking the fork byte and the whole image.
 pub fn lookup(image: &[u8], file: u32, fork: u8, start: u16) -> Lookup {
     if !is_lawful_fork(fork) {
-        return refused(Verdict::new(ASKED_FORK, 0));
+        return refused(Verdict::new(ASKED_FORK, Place::START));
     }
     match open(image) {
         Ok(sound) => descend(&sound, Key { file, fork, start }.packed()),
@@ -79,7 +82,7 @@ fn search_leaf(lookup: &mut Lookup, number: u32, node: &Node, asked: u64) {
     // Halving only knows that the key is not above the asked one.
     let has_key = |&record: &usize| packed_key(&records[record]) == asked;
     if let Some(record) = halving.reached.filter(has_key) {
-        lookup.answer = Answer::Found { node: number, record: record as u32 };
+        lookup.answer = Answer::Found { place: Place::in_node(number, Leaf::start(record)) };
         lookup.data = Some(range_in_image(number as usize, leaf_data(record)));
     }
 }

@@ -5,6 +5,7 @@ use crate::node::{
     RECORDS_AT,
 };
 use crate::node_set::NodeSet;
+use crate::place::Place;
 use crate::verdict::{require, Verdict, MAP_BITS, MAP_CHAIN};
 use std::iter;
 use std::ops::Range;
@@ -24,26 +25,27 @@ pub fn follow_chain(nodes: &[Node], met: &mut NodeSet) -> Result<Vec<u32>, Verdi
             break;
         }
         let new = (next as usize) < nodes.len() && met.insert(next);
-        require(new, MAP_CHAIN, last)?;
-        require(is_map_node(&nodes[next as usize]), MAP_CHAIN, next)?;
+        require(new, MAP_CHAIN, Place::of_node(last))?;
+        require(is_map_node(&nodes[next as usize]), MAP_CHAIN, Place::of_node(next))?;
         chain.push(next);
         last = next;
     }
     let bits = 8 * (HEADER_MAP.len() + chain.len() * NODE_MAP.len());
-    require(bits >= nodes.len(), MAP_CHAIN, last)?;
+    require(bits >= nodes.len(), MAP_CHAIN, Place::of_node(last))?;
     Ok(chain)
 }
 
 /// Test 9: every bit the chain carries is set exactly when its node was met.
 pub fn compare_bits(nodes: &[Node], chain: &[u32], met: &NodeSet) -> Result<(), Verdict> {
-    let map_records = chain.iter().map(|&number| &nodes[number as usize][NODE_MAP]);
-    let mapped = iter::once(&nodes[0][HEADER_MAP]).chain(map_records).flatten();
+    let map_nodes = chain.iter().map(|&number| (number, NODE_MAP));
+    let map_records = iter::once((0, HEADER_MAP)).chain(map_nodes);
+    let map_bytes = map_records.flat_map(|(number, record)| iter::repeat(number).zip(record));
     // Bits beyond the last node belong to no node, so none of them was met.
     let expected = met.bytes().iter().chain(iter::repeat(&0));
-    for (index, (mapped, expected)) in mapped.zip(expected).enumerate() {
-        let wrong = mapped ^ expected;
-        let lowest_wrong = 8 * index as u32 + wrong.leading_zeros();
-        require(wrong == 0, MAP_BITS, lowest_wrong)?;
+    for ((number, offset), &expected) in map_bytes.zip(expected) {
+        // The bytes come in the order of their bits, so the first wrong one has the lowest.
+        let right = nodes[number as usize][offset] == expected;
+        require(right, MAP_BITS, Place::in_node(number, offset))?;
     }
     Ok(())
 }

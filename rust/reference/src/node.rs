@@ -4,6 +4,8 @@ use std::ops::Range;
 
 pub const NODE_SIZE: usize = 512;
 pub const MOST_NODES: usize = 6_000;
+pub const FORWARD_LINK_AT: usize = 0;
+pub const BACK_LINK_AT: usize = 4;
 pub const RECORDS_AT: usize = 14;
 
 pub const HEADER_KIND: u8 = 0x01;
@@ -25,11 +27,11 @@ pub fn be32(node: &Node, at: usize) -> u32 {
 }
 
 pub fn forward_link(node: &Node) -> u32 {
-    be32(node, 0)
+    be32(node, FORWARD_LINK_AT)
 }
 
 pub fn back_link(node: &Node) -> u32 {
-    be32(node, 4)
+    be32(node, BACK_LINK_AT)
 }
 
 pub fn kind(node: &Node) -> u8 {

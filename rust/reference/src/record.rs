@@ -2,6 +2,7 @@
 
 use crate::key::{is_lawful_fork, Key, KEY_LENGTH, KEY_SIZE};
 use crate::node::{kind, level, record_count, reserved, Node, RECORDS_AT};
+use crate::place::Place;
 use crate::position::Position;
 use crate::verdict::{require, Verdict, KEY_ORDER, NODE_FORM};
 use std::ops::Range;
@@ -27,9 +28,20 @@ impl<const KIND: u8, const SIZE: usize, const MOST: usize> Keyed<KIND, SIZE, MOS
     /// Tests 5 and 6 of a node that belongs in the given position.
     pub fn test(node: &Node, number: u32, position: &Position) -> Result<(), Verdict> {
         let right_level = usize::from(level(node)) == position.level;
-        require(right_level && Self::is_well_formed(node), NODE_FORM, number)?;
-        require(Self::keys_ascend_within(node, &position.bounds), KEY_ORDER, number)?;
-        require(Self::matches_pointer(node, position.pointer_key), KEY_ORDER, number)
+        let right_form = right_level && Self::is_well_formed(node);
+        require(right_form, NODE_FORM, Place::of_node(number))?;
+        match Self::first_misplaced(node, position) {
+            None => Ok(()),
+            Some(record) => {
+                let place = Place::in_node(number, Self::start(record));
+                Err(Verdict::new(KEY_ORDER, place))
+            }
+        }
+    }
+
+    /// Where a record starts within its node.
+    pub fn start(record: usize) -> usize {
+        RECORDS_AT + record * SIZE
     }
 
     /// Test 5 without the level, which a salvaged node need not keep.
@@ -41,18 +53,28 @@ impl<const KIND: u8, const SIZE: usize, const MOST: usize> Keyed<KIND, SIZE, MOS
             && Self::records(node).iter().all(has_lawful_key)
     }
 
-    /// Test 6: keys strictly ascend, from `bounds.start` on and below `bounds.end`.
-    pub fn keys_ascend_within(node: &Node, bounds: &Range<u64>) -> bool {
+    /// Test 6: the first record whose key breaks any of the rules for keys.
+    fn first_misplaced(node: &Node, position: &Position) -> Option<usize> {
+        if Self::matches_pointer(node, position.pointer_key) {
+            Self::first_out_of_order(node, &position.bounds)
+        } else {
+            // Only record 0 has to match, and no fault comes before one of record 0.
+            Some(0)
+        }
+    }
+
+    /// The first record whose key is not above the one before it or not within the bounds.
+    pub fn first_out_of_order(node: &Node, bounds: &Range<u64>) -> Option<usize> {
         let mut lowest = bounds.start;
-        Self::records(node).iter().all(|record| {
+        Self::records(node).iter().position(|record| {
             let key = packed_key(record);
             let fits = lowest <= key && key < bounds.end;
             lowest = key + 1;
-            fits
+            !fits
         })
     }
 
-    /// Test 6: the first key equals the key of the pointer, where a pointer leads to the node.
+    /// The first key equals the key of the pointer, where a pointer leads to the node.
     fn matches_pointer(node: &Node, pointer_key: Option<u64>) -> bool {
         let first_key = Self::records(node).first().map(packed_key);
         pointer_key.is_none() || pointer_key == first_key
@@ -61,11 +83,10 @@ impl<const KIND: u8, const SIZE: usize, const MOST: usize> Keyed<KIND, SIZE, MOS
     /// One offset more than records, as words from the end of the node backwards.
     fn has_right_offsets(node: &Node) -> bool {
         let words = node.rchunks_exact(2).map(|word| u16::from_be_bytes([word[0], word[1]]));
-        let right = (RECORDS_AT..).step_by(SIZE);
         words
-            .zip(right)
+            .enumerate()
             .take(record_count(node) + 1)
-            .all(|(word, right)| usize::from(word) == right)
+            .all(|(record, word)| usize::from(word) == Self::start(record))
     }
 }
 
@@ -86,6 +107,11 @@ pub fn child(record: &IndexBytes) -> u32 {
     u32::from_be_bytes([record[8], record[9], record[10], record[11]])
 }
 
+/// Where the child's number of an index record stands within the node.
+pub fn child_at(record: usize) -> usize {
+    Index::start(record) + KEY_SIZE
+}
+
 /// The record of a leaf with ascending keys that has the asked key.
 pub fn find_in_leaf(node: &Node, asked: u64) -> Option<usize> {
     Leaf::records(node).binary_search_by_key(&asked, packed_key).ok()
@@ -93,7 +119,7 @@ pub fn find_in_leaf(node: &Node, asked: u64) -> Option<usize> {
 
 /// Where the data of a leaf record stand within the node.
 pub fn leaf_data(record: usize) -> Range<usize> {
-    let start = RECORDS_AT + record * size_of::<LeafBytes>() + KEY_SIZE;
+    let start = Leaf::start(record) + KEY_SIZE;
     start..start + LEAF_DATA_SIZE
 }
 

@@ -2,16 +2,17 @@
 
 use crate::key::{is_lawful_fork, Key};
 use crate::node::{range_in_image, whole_nodes, Node, MOST_NODES, NODE_SIZE};
+use crate::place::Place;
 use crate::record::{find_in_leaf, leaf_data, Leaf};
 use crate::verdict::{ASKED_FORK, LENGTH};
 use std::ops::Range;
 
-/// Which of seen, not seen or refused a salvage came to.
+/// Which of seen, not seen or refused a salvage came to; seen has the start of the record.
 #[derive(Clone, Copy, Debug, PartialEq, Eq)]
 pub enum SalvageAnswer {
-    Seen { node: u32, record: u32 },
+    Seen { place: Place },
     NotSeen,
-    Refused { number: u32, place: u32 },
+    Refused { number: u32, place: Place },
 }
 
 /// The answer to a salvage and the place of the data in the image.
@@ -40,7 +41,8 @@ pub fn salvage(image: &[u8], file: u32, fork: u8, start: u16) -> Salvage {
 }
 
 fn find_in_any(node: &Node, asked: u64) -> Option<usize> {
-    let counts = Leaf::is_well_formed(node) && Leaf::keys_ascend_within(node, &(0..u64::MAX));
+    let counts =
+        Leaf::is_well_formed(node) && Leaf::first_out_of_order(node, &(0..u64::MAX)).is_none();
     if counts {
         find_in_leaf(node, asked)
     } else {
@@ -49,12 +51,13 @@ fn find_in_any(node: &Node, asked: u64) -> Option<usize> {
 }
 
 fn seen(number: usize, record: usize) -> Salvage {
+    let place = Place::in_node(number as u32, Leaf::start(record));
     Salvage {
-        answer: SalvageAnswer::Seen { node: number as u32, record: record as u32 },
+        answer: SalvageAnswer::Seen { place },
         data: Some(range_in_image(number, leaf_data(record))),
     }
 }
 
 fn refused(number: u32) -> Salvage {
-    Salvage { answer: SalvageAnswer::Refused { number, place: 0 }, data: None }
+    Salvage { answer: SalvageAnswer::Refused { number, place: Place::START }, data: None }
 }

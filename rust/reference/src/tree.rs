@@ -1,10 +1,11 @@
 //! Tests 4 to 7: the walk over the tree.
 
-use crate::header::Header;
-use crate::node::{back_link, forward_link, record_count, Node};
+use crate::header::{Header, ROOT_AT};
+use crate::node::{back_link, forward_link, record_count, Node, BACK_LINK_AT, FORWARD_LINK_AT};
 use crate::node_set::NodeSet;
+use crate::place::Place;
 use crate::position::Position;
-use crate::record::{child, packed_key, Index, Leaf};
+use crate::record::{child, child_at, packed_key, Index, Leaf};
 use crate::verdict::{require, Verdict, CHILD, LINKS};
 
 /// No packed key reaches this, so it stands for "no bound above".
@@ -36,7 +37,8 @@ pub fn walk(nodes: &[Node], header: &Header, met: &mut NodeSet) -> Result<LeafTo
         Walk { nodes, depth: header.depth, met, last_met: [0; 9], first_leaf: 0, leaf_records: 0 };
     if header.depth > 0 {
         let level = header.depth;
-        let root = Position { parent: 0, level, pointer_key: None, bounds: 0..UNBOUNDED };
+        let named_at = Place::in_node(0, ROOT_AT);
+        let root = Position { named_at, level, pointer_key: None, bounds: 0..UNBOUNDED };
         walk.visit(header.root, &root)?;
         walk.test_level_ends()?;
     }
@@ -51,7 +53,7 @@ impl Walk<'_> {
     fn visit(&mut self, number: u32, position: &Position) -> Result<(), Verdict> {
         // Node 0 and the map chain have been met before the tree, so they fall out here too.
         let new = (number as usize) < self.nodes.len() && self.met.insert(number);
-        require(new, CHILD, position.parent)?;
+        require(new, CHILD, position.named_at)?;
 
         let node = &self.nodes[number as usize];
         let is_leaf = position.level == LEAF_LEVEL;
@@ -77,7 +79,8 @@ impl Walk<'_> {
         for (index, record) in records.iter().enumerate() {
             let low = packed_key(record);
             let high = records.get(index + 1).map_or(position.bounds.end, packed_key);
-            let position = Position { parent, level, pointer_key: Some(low), bounds: low..high };
+            let named_at = Place::in_node(parent, child_at(index));
+            let position = Position { named_at, level, pointer_key: Some(low), bounds: low..high };
             self.visit(child(record), &position)?;
         }
         Ok(())
@@ -86,10 +89,10 @@ impl Walk<'_> {
     fn test_links(&mut self, number: u32, level: usize) -> Result<(), Verdict> {
         let before = self.last_met[level];
         let node = &self.nodes[number as usize];
-        require(back_link(node) == before, LINKS, number)?;
+        let back_link_at = Place::in_node(number, BACK_LINK_AT);
+        require(back_link(node) == before, LINKS, back_link_at)?;
         if before != 0 {
-            let forward = forward_link(&self.nodes[before as usize]);
-            require(forward == number, LINKS, before)?;
+            self.test_forward_link(before, number)?;
         }
         self.last_met[level] = number;
         Ok(())
@@ -98,10 +101,14 @@ impl Walk<'_> {
     /// The levels come from the root down, so the highest one first.
     fn test_level_ends(&self) -> Result<(), Verdict> {
         for &last in self.last_met[LEAF_LEVEL..=self.depth].iter().rev() {
-            let forward = forward_link(&self.nodes[last as usize]);
-            require(forward == 0, LINKS, last)?;
+            self.test_forward_link(last, 0)?;
         }
         Ok(())
+    }
+
+    fn test_forward_link(&self, number: u32, right: u32) -> Result<(), Verdict> {
+        let forward = forward_link(&self.nodes[number as usize]);
+        require(forward == right, LINKS, Place::in_node(number, FORWARD_LINK_AT))
     }
 
     fn count_leaf(&mut self, number: u32) {

@@ -1,5 +1,7 @@
 //! Which number and place a test answers with.
 
+use crate::place::Place;
+
 pub const LENGTH: u32 = 1;
 pub const HEADER: u32 = 2;
 pub const MAP_CHAIN: u32 = 3;
@@ -16,19 +18,19 @@ pub const ASKED_FORK: u32 = 11;
 #[derive(Clone, Copy, Debug, PartialEq, Eq)]
 pub struct Verdict {
     pub number: u32,
-    pub place: u32,
+    pub place: Place,
 }
 
 impl Verdict {
-    pub const SOUND: Verdict = Verdict::new(0, 0);
+    pub const SOUND: Verdict = Verdict::new(0, Place::START);
 
-    pub const fn new(number: u32, place: u32) -> Self {
+    pub const fn new(number: u32, place: Place) -> Self {
         Verdict { number, place }
     }
 }
 
 /// Passes when `holds`, so that tests read as a list of rules with their verdicts.
-pub fn require(holds: bool, number: u32, place: u32) -> Result<(), Verdict> {
+pub fn require(holds: bool, number: u32, place: Place) -> Result<(), Verdict> {
     if holds {
         Ok(())
     } else {

@@ -2,7 +2,7 @@
 
 use images::by_hand::three_levels_by_hand;
 use images::{bench, build, Plan, Rng};
-use reference::{check, leaf_records, listing, lookup, salvage, Answer, Verdict};
+use reference::{check, leaf_records, listing, lookup, salvage, Answer, Place, Verdict};
 
 /// Asks everything; what is called sound must also behave as sound.
 fn ask_everything(image: &[u8]) {
@@ -17,7 +17,8 @@ fn ask_everything(image: &[u8]) {
     assert!(records.windows(2).all(|pair| pair[0].key.compare(pair[1].key) == -1));
     for listed in records.iter().take(20) {
         let key = listed.key;
-        let found = Answer::Found { node: listed.node, record: listed.record };
+        let place = Place { node: listed.node, offset: listed.start };
+        let found = Answer::Found { place };
         assert_eq!(lookup(image, key.file, key.fork, key.start).answer, found);
     }
 }

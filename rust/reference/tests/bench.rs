@@ -2,15 +2,19 @@
 //! answer; how many keys a lookup compares is worked out by hand.
 
 use images::bench::*;
-use reference::{check, lookup, Answer, Key, Lookup, Verdict};
+use reference::{check, lookup, Answer, Key, Lookup, Place, Verdict};
 
-fn verdict(number: u32, place: u32) -> Verdict {
-    Verdict { number, place }
+fn verdict(number: u32, node: u32, offset: u32) -> Verdict {
+    Verdict { number, place: Place { node, offset } }
 }
 
-fn refused(number: u32, place: u32) -> Lookup {
-    let answer = Answer::Refused { number, place };
+fn refused(number: u32, node: u32, offset: u32) -> Lookup {
+    let answer = Answer::Refused { number, place: Place { node, offset } };
     Lookup { answer, compared: 0, path: [0; 8], path_len: 0, data: None }
+}
+
+fn found_at(node: u32, offset: u32) -> Answer {
+    Answer::Found { place: Place { node, offset } }
 }
 
 fn word(image: &[u8], at: usize) -> u16 {
@@ -19,15 +23,15 @@ fn word(image: &[u8], at: usize) -> u16 {
 
 #[test]
 fn lengths() {
-    assert_eq!(check(&[]), verdict(1, 0));
-    assert_eq!(check(&[0; 511]), verdict(1, 0));
-    assert_eq!(check(&[0; 512]), verdict(2, 0));
-    assert_eq!(check(&vec![0; 3_072_512]), verdict(1, 0));
+    assert_eq!(check(&[]), verdict(1, 0, 0));
+    assert_eq!(check(&[0; 511]), verdict(1, 0, 0));
+    assert_eq!(check(&[0; 512]), verdict(2, 0, 0));
+    assert_eq!(check(&vec![0; 3_072_512]), verdict(1, 0, 0));
 }
 
 #[test]
 fn e1_is_sound_and_empty() {
-    assert_eq!(check(&e1()), verdict(0, 0));
+    assert_eq!(check(&e1()), verdict(0, 0, 0));
     let answer = Answer::Absent { node: 0 };
     let absent = Lookup { answer, compared: 0, path: [0; 8], path_len: 0, data: None };
     let keys = [(0, 0x00, 0), (16, 0x00, 5), (16, 0xFF, 5), (u32::MAX, 0xFF, u16::MAX)];
@@ -38,10 +42,10 @@ fn e1_is_sound_and_empty() {
 
 #[test]
 fn e1_spoiled() {
-    assert_eq!(check(&e1_with_map_byte(0x00)), verdict(9, 0));
-    assert_eq!(check(&e1_with_map_byte(0xC0)), verdict(9, 1));
-    assert_eq!(check(&e1_with_free_1()), verdict(10, 0));
-    assert_eq!(lookup(&e1_with_free_1(), 16, 0x00, 5), refused(10, 0));
+    assert_eq!(check(&e1_with_map_byte(0x00)), verdict(9, 0, 0xF8));
+    assert_eq!(check(&e1_with_map_byte(0xC0)), verdict(9, 0, 0xF8));
+    assert_eq!(check(&e1_with_free_1()), verdict(10, 0, 0));
+    assert_eq!(lookup(&e1_with_free_1(), 16, 0x00, 5), refused(10, 0, 0));
 }
 
 #[test]
@@ -66,9 +70,9 @@ fn l1_bytes_are_the_papers() {
 fn l1_lookups() {
     let image = l1();
     let path = [1, 0, 0, 0, 0, 0, 0, 0];
-    assert_eq!(check(&image), verdict(0, 0));
+    assert_eq!(check(&image), verdict(0, 0, 0));
     let found = Lookup {
-        answer: Answer::Found { node: 1, record: 0 },
+        answer: found_at(1, 14),
         compared: 1,
         path,
         path_len: 1,
@@ -80,15 +84,15 @@ fn l1_lookups() {
     let absent = Lookup { answer, compared: 1, path, path_len: 1, data: None };
     assert_eq!(lookup(&image, 16, 0xFF, 5), absent);
     assert_eq!(lookup(&image, 16, 0x00, 4), absent);
-    assert_eq!(lookup(&image, 16, 0x01, 5), refused(11, 0));
+    assert_eq!(lookup(&image, 16, 0x01, 5), refused(11, 0, 0));
 }
 
 #[test]
 fn l1_with_a_wrong_back_link() {
-    assert_eq!(check(&l1_with_back_link_1()), verdict(7, 1));
-    assert_eq!(lookup(&l1_with_back_link_1(), 16, 0x00, 5), refused(7, 1));
+    assert_eq!(check(&l1_with_back_link_1()), verdict(7, 1, 4));
+    assert_eq!(lookup(&l1_with_back_link_1(), 16, 0x00, 5), refused(7, 1, 4));
     // The asked fork is tested before the image.
-    assert_eq!(lookup(&l1_with_back_link_1(), 16, 0x01, 5), refused(11, 0));
+    assert_eq!(lookup(&l1_with_back_link_1(), 16, 0x01, 5), refused(11, 0, 0));
 }
 
 /// The bytes of a node: its first 12, its records, its last words.
@@ -131,19 +135,19 @@ fn two_leaves_bytes() {
 #[test]
 fn two_leaves_lookups() {
     let image = two_leaves();
-    assert_eq!(check(&image), verdict(0, 0));
+    assert_eq!(check(&image), verdict(0, 0, 0));
     let says = |answer, compared, path: [u32; 2], path_len, data| {
         let path = [path[0], path[1], 0, 0, 0, 0, 0, 0];
         Lookup { answer, compared, path, path_len, data }
     };
     // Past three nodes, the 14 bytes of node 3, its first record and the key of the second.
-    let last = says(Answer::Found { node: 3, record: 1 }, 1 + 1, [1, 3], 2, Some(1578..1590));
+    let last = says(found_at(3, 34), 1 + 1, [1, 3], 2, Some(1578..1590));
     assert_eq!(lookup(&image, 17, 0x00, 0), last);
     // The second key of leaf 3 is above, so the first is compared as well.
-    let middle = says(Answer::Found { node: 3, record: 0 }, 1 + 2, [1, 3], 2, Some(1558..1570));
+    let middle = says(found_at(3, 14), 1 + 2, [1, 3], 2, Some(1558..1570));
     assert_eq!(lookup(&image, 16, 0xFF, 0), middle);
     // The second pointer is above, so the first is compared as well.
-    let first = says(Answer::Found { node: 2, record: 0 }, 2 + 1, [1, 2], 2, Some(1046..1058));
+    let first = says(found_at(2, 14), 2 + 1, [1, 2], 2, Some(1046..1058));
     assert_eq!(lookup(&image, 16, 0x00, 5), first);
     let below_every_pointer = says(Answer::Absent { node: 1 }, 2, [1, 0], 1, None);
     assert_eq!(lookup(&image, 16, 0x00, 4), below_every_pointer);
@@ -159,11 +163,11 @@ fn two_leaves_lookups() {
 fn two_leaves_with_other_levels() {
     assert_eq!(two_leaves_with_levels(2, 1), two_leaves());
     let from_the_root = two_leaves_with_levels(1, 2);
-    assert_eq!(check(&from_the_root), verdict(5, 1));
-    assert_eq!(lookup(&from_the_root, 17, 0x00, 0), refused(5, 1));
-    assert_eq!(check(&two_leaves_with_levels(1, 0)), verdict(5, 1));
-    assert_eq!(check(&two_leaves_with_levels(2, 0)), verdict(5, 2));
-    assert_eq!(check(&two_leaves_with_levels(2, 2)), verdict(5, 2));
+    assert_eq!(check(&from_the_root), verdict(5, 1, 0));
+    assert_eq!(lookup(&from_the_root, 17, 0x00, 0), refused(5, 1, 0));
+    assert_eq!(check(&two_leaves_with_levels(1, 0)), verdict(5, 1, 0));
+    assert_eq!(check(&two_leaves_with_levels(2, 0)), verdict(5, 2, 0));
+    assert_eq!(check(&two_leaves_with_levels(2, 2)), verdict(5, 2, 0));
 }
 
 #[test]
@@ -175,16 +179,16 @@ fn two_leaves_with_other_pointers() {
     assert_eq!(with_pointer(1, 16, 0xFF, 0), two_leaves());
     // In order and within all bounds, but below the first key of leaf 3.
     let below = with_pointer(1, 16, 0x00, 6);
-    assert_eq!(check(&below), verdict(6, 3));
-    assert_eq!(lookup(&below, 16, 0xFF, 0), refused(6, 3));
+    assert_eq!(check(&below), verdict(6, 3, 14));
+    assert_eq!(lookup(&below, 16, 0xFF, 0), refused(6, 3, 14));
     let first_below = with_pointer(0, 16, 0x00, 4);
-    assert_eq!(check(&first_below), verdict(6, 2));
-    assert_eq!(lookup(&first_below, 16, 0x00, 5), refused(6, 2));
+    assert_eq!(check(&first_below), verdict(6, 2, 14));
+    assert_eq!(lookup(&first_below, 16, 0x00, 5), refused(6, 2, 14));
     let at_last_key = with_pointer(1, 17, 0x00, 0);
-    assert_eq!(check(&at_last_key), verdict(6, 3));
-    assert_eq!(lookup(&at_last_key, 17, 0x00, 0), refused(6, 3));
-    // Equal to the pointer before it, so the root itself is out of order.
-    assert_eq!(check(&with_pointer(1, 16, 0x00, 5)), verdict(6, 1));
+    assert_eq!(check(&at_last_key), verdict(6, 3, 14));
+    assert_eq!(lookup(&at_last_key, 17, 0x00, 0), refused(6, 3, 14));
+    // Equal to the pointer before it, so the root's second record is out of order.
+    assert_eq!(check(&with_pointer(1, 16, 0x00, 5)), verdict(6, 1, 26));
 }
 
 #[test]
@@ -193,18 +197,18 @@ fn the_first_key_of_a_root_is_free() {
     for (file, fork, start) in keys {
         let mut image = l1();
         image[526..534].copy_from_slice(&images::Key::new(file, fork, start).bytes());
-        assert_eq!(check(&image), verdict(0, 0));
+        assert_eq!(check(&image), verdict(0, 0, 0));
         let found = lookup(&image, file, fork, start).answer;
-        assert_eq!(found, Answer::Found { node: 1, record: 0 });
+        assert_eq!(found, found_at(1, 14));
     }
     // As the first key of a root over leaves, and so of leaf 2 as well.
     for (file, fork, start) in [(0, 0x00, 0), (0, 0x00, 1), (16, 0x00, 4)] {
         let key = images::Key::new(file, fork, start);
         let mut image = two_leaves_with_pointer(0, key);
         image[1038..1046].copy_from_slice(&key.bytes());
-        assert_eq!(check(&image), verdict(0, 0));
+        assert_eq!(check(&image), verdict(0, 0, 0));
         let found = lookup(&image, file, fork, start).answer;
-        assert_eq!(found, Answer::Found { node: 2, record: 0 });
+        assert_eq!(found, found_at(2, 14));
     }
 }
 
@@ -227,16 +231,16 @@ fn key_order() {
 fn most_leaf_records() {
     let full = leaf_with(22);
     assert_eq!(word(&full, 1024 - 2 - 2 * 22), 0x01C6);
-    assert_eq!(check(&full), verdict(0, 0));
-    assert_eq!(check(&leaf_with(23)), verdict(5, 1));
+    assert_eq!(check(&full), verdict(0, 0, 0));
+    assert_eq!(check(&leaf_with(23)), verdict(5, 1, 0));
 }
 
 #[test]
 fn most_index_records() {
     let full = index_with(35);
     assert_eq!(word(&full, 1024 - 2 - 2 * 35), 0x01B2);
-    assert_eq!(check(&full), verdict(0, 0));
-    assert_eq!(check(&index_with(36)), verdict(5, 1));
+    assert_eq!(check(&full), verdict(0, 0, 0));
+    assert_eq!(check(&index_with(36)), verdict(5, 1, 0));
 }
 
 /// Asks for the file's key and for one between it and the next, which halve alike.
@@ -324,11 +328,11 @@ fn at_most_six_keys_of_an_index_node_are_compared() {
 
 #[test]
 fn map_node_needed_from_2049_nodes() {
-    assert_eq!(check(&empty_tree(2_048)), verdict(0, 0));
-    assert_eq!(check(&empty_tree(2_049)), verdict(3, 0));
+    assert_eq!(check(&empty_tree(2_048)), verdict(0, 0, 0));
+    assert_eq!(check(&empty_tree(2_049)), verdict(3, 0, 0));
 }
 
 #[test]
 fn map_node_linked_to_itself_is_at_fault() {
-    assert_eq!(check(&map_node_linked_to_itself()), verdict(3, 1));
+    assert_eq!(check(&map_node_linked_to_itself()), verdict(3, 1, 0));
 }

@@ -1,7 +1,7 @@
 //! Lookups of every key and of gaps, against a linear search of the leaf list.
 
 use images::{bench, build, samples, Built, Key, Plan, Record, Rng};
-use reference::{leaf_records, lookup, Answer, LeafRecord, Lookup};
+use reference::{leaf_records, lookup, Answer, LeafRecord, Lookup, Place};
 
 fn long(image: &[u8], at: usize) -> u32 {
     image[at..at + 4].iter().fold(0, |value, &byte| value << 8 | u32::from(byte))
@@ -77,7 +77,9 @@ fn expected(image: &[u8], list: &[LeafRecord], asked: Key) -> Lookup {
     };
     let found = list.iter().find(has_key);
     let answer = match found {
-        Some(&LeafRecord { node, record, .. }) => Answer::Found { node, record },
+        Some(&LeafRecord { node, record, .. }) => {
+            Answer::Found { place: Place { node, offset: 14 + 20 * record } }
+        }
         None => Answer::Absent { node: scanned.last().copied().unwrap_or(0) },
     };
     let data = found.map(|found| {
@@ -91,8 +93,12 @@ fn expected(image: &[u8], list: &[LeafRecord], asked: Key) -> Lookup {
 fn assert_right(image: &[u8], list: &[LeafRecord], asked: Key) {
     let got = lookup(image, asked.file, asked.fork, asked.start);
     assert_eq!(got, expected(image, list, asked), "{asked:?}");
-    if let (Answer::Found { node, record }, Some(data)) = (got.answer, got.data) {
-        let listed = list.iter().find(|listed| (listed.node, listed.record) == (node, record));
+    if let (Answer::Found { place }, Some(data)) = (got.answer, got.data) {
+        let stands_there = |listed: &&LeafRecord| {
+            let LeafRecord { node, start: offset, .. } = **listed;
+            Place { node, offset } == place
+        };
+        let listed = list.iter().find(stands_there);
         assert_eq!(listed.map(|listed| &listed.data[..]), Some(&image[data]));
     }
 }
@@ -187,7 +193,7 @@ fn some_keys_of_the_largest() {
 #[test]
 fn unlawful_forks_are_refused_before_anything_else() {
     let built = samples::two_level();
-    let answer = Answer::Refused { number: 11, place: 0 };
+    let answer = Answer::Refused { number: 11, place: Place { node: 0, offset: 0 } };
     let refused = Lookup { answer, compared: 0, path: [0; 8], path_len: 0, data: None };
     for fork in 0x01..=0xFE {
         for image in [&built.image[..], &[]] {

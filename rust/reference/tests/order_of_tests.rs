@@ -2,7 +2,7 @@
 
 use images::spoil::{spoilings, Spoiling};
 use images::{build, Built, Plan};
-use reference::{check, Verdict};
+use reference::{check, Place, Verdict};
 
 /// Whether the second fault leaves the first one standing.
 fn independent(a: &Spoiling, b: &Spoiling) -> bool {
@@ -38,7 +38,8 @@ fn assert_earlier_wins(built: &Built, a: &Spoiling, b: &Spoiling) {
     // A wrong length is the earliest fault, so the image is cut after all other changes.
     later.apply(&mut image);
     earlier.apply(&mut image);
-    let expected = Verdict { number: earlier.number, place: earlier.place };
+    let place = Place { node: earlier.place.node, offset: earlier.place.offset };
+    let expected = Verdict { number: earlier.number, place };
     assert_eq!(check(&image), expected, "{} and {}", earlier.name(), later.name());
 }
 

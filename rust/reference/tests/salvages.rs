@@ -4,9 +4,9 @@ use images::bench;
 use images::by_hand::three_levels_by_hand;
 use images::spoil::spoilings;
 use images::{build, samples, Key, Plan, Rng};
-use reference::{salvage, Salvage, SalvageAnswer};
+use reference::{salvage, Place, Salvage, SalvageAnswer};
 
-/// All that a node would give a salvage: the key and the data's position of each of its records.
+/// All that a node would give a salvage: the key and the start of each of its records.
 fn records_of(image: &[u8], node: usize) -> Option<Vec<(Key, usize)>> {
     let byte = |at: usize| u32::from(image[node * 512 + at]);
     let word = |at: usize| byte(at) * 256 + byte(at + 1);
@@ -31,18 +31,23 @@ fn records_of(image: &[u8], node: usize) -> Option<Vec<(Key, usize)>> {
         if byte(offset) != 7 || (fork != 0 && fork != 255) || !ascends {
             return None;
         }
-        records.push((key, node * 512 + offset + 8));
+        records.push((key, offset));
     }
     Some(records)
+}
+
+fn seen_at(node: u32, offset: u32) -> SalvageAnswer {
+    SalvageAnswer::Seen { place: Place { node, offset } }
 }
 
 fn by_brute_force(image: &[u8], asked: Key) -> Salvage {
     for node in 1..image.len() / 512 {
         let records = records_of(image, node).unwrap_or_default();
-        for (record, &(key, data)) in records.iter().enumerate() {
+        for (key, offset) in records {
             if key == asked {
+                let data = node * 512 + offset + 8;
                 return Salvage {
-                    answer: SalvageAnswer::Seen { node: node as u32, record: record as u32 },
+                    answer: seen_at(node as u32, offset as u32),
                     data: Some(data..data + 12),
                 };
             }
@@ -72,7 +77,8 @@ fn assert_right(image: &[u8]) {
 }
 
 fn refused(number: u32) -> Salvage {
-    Salvage { answer: SalvageAnswer::Refused { number, place: 0 }, data: None }
+    let place = Place { node: 0, offset: 0 };
+    Salvage { answer: SalvageAnswer::Refused { number, place }, data: None }
 }
 
 #[test]
@@ -119,27 +125,27 @@ fn the_lowest_node_is_seen_first() {
     let mut image = three_levels_by_hand();
     let seen = |image: &[u8]| salvage(image, 20, 0x00, 0);
     image.copy_within(4 * 512..5 * 512, 8 * 512);
-    assert_eq!(seen(&image).answer, SalvageAnswer::Seen { node: 4, record: 1 });
+    assert_eq!(seen(&image).answer, seen_at(4, 34));
     assert_eq!(seen(&image).data, Some(4 * 512 + 42..4 * 512 + 54));
     image.copy_within(4 * 512..5 * 512, 2 * 512);
-    assert_eq!(seen(&image).answer, SalvageAnswer::Seen { node: 2, record: 1 });
+    assert_eq!(seen(&image).answer, seen_at(2, 34));
     // The header's place is never a leaf.
     image.copy_within(4 * 512..5 * 512, 0);
-    assert_eq!(seen(&image).answer, SalvageAnswer::Seen { node: 2, record: 1 });
+    assert_eq!(seen(&image).answer, seen_at(2, 34));
     // Level and links are not looked at.
     image[2 * 512..2 * 512 + 8].fill(0xA5);
     image[2 * 512 + 9] = 0xA5;
-    assert_eq!(seen(&image).answer, SalvageAnswer::Seen { node: 2, record: 1 });
+    assert_eq!(seen(&image).answer, seen_at(2, 34));
     // A fault in another record of the node takes the whole node out.
     image[2 * 512 + 14] = 6;
-    assert_eq!(seen(&image).answer, SalvageAnswer::Seen { node: 4, record: 1 });
+    assert_eq!(seen(&image).answer, seen_at(4, 34));
 }
 
 #[test]
 fn lengths() {
     let mut image = bench::l1();
     let seen = salvage(&image, 16, 0x00, 5);
-    assert_eq!(seen.answer, SalvageAnswer::Seen { node: 1, record: 0 });
+    assert_eq!(seen.answer, seen_at(1, 14));
     assert_eq!(seen.data, Some(534..546));
     // A broken last node is ignored.
     image.push(0xFF);

@@ -6,18 +6,18 @@ use borrow.Author.Needs.{needs}
 use Rattle.bench_cases.proofs.too_many_nodes.Statement.{statement}
 use Rattle.bench_cases.proofs.too_many_nodes.Tie as tie
 
-slice-aggregate-say : tie.Need-slice-aggregate-say
-slice-aggregate-say c = search needs
+slice-aggregate-print-case : tie.Need-slice-aggregate-print-case
+slice-aggregate-print-case c = search needs
 
-slice-aggregate-say-2 : tie.Need-slice-aggregate-say-2
-slice-aggregate-say-2 c = sym (length-replicate {A = ℕ} 3072512 0)
+slice-aggregate-print-case-2 : tie.Need-slice-aggregate-print-case-2
+slice-aggregate-print-case-2 c = sym (length-replicate {A = ℕ} 3072512 0)
 
-say-requires : tie.Need-say-requires
-say-requires c κs = search needs
+print-case-requires : tie.Need-print-case-requires
+print-case-requires c κs = search needs
 
 returns : tie.Need-returns
 returns c = search needs
 
 pub too-many-nodes-spec : {M : Type 1} → statement M
 too-many-nodes-spec =
-    tie.close (tie.spec slice-aggregate-say slice-aggregate-say-2 say-requires returns)
+    tie.close (tie.spec slice-aggregate-print-case slice-aggregate-print-case-2 print-case-requires returns)

@@ -1,6 +1,6 @@
 -- `hfs_check` meets its contract. Assumes nothing.
-use mathlib.Core.Path.{ap}
-use Rattle.capi.specs.Written.{verdictNumbers}
+use mathlib.Core.Path.{ap, _∙_}
+use Rattle.btree.specs.Numbers.{replyNumbers}
 use borrow.Author.Needs.{needs}
 use Rattle.capi.proofs.hfs_check.Statement.{statement}
 use Rattle.capi.proofs.hfs_check.Tie as tie
@@ -8,8 +8,11 @@ use Rattle.capi.proofs.hfs_check.Tie as tie
 check-requires : tie.Need-check-requires
 check-requires c κs = search needs
 
+reply-numbers-requires : tie.Need-reply-numbers-requires
+reply-numbers-requires c κs = search needs
+
 returns : tie.Need-returns
-returns c = ap verdictNumbers (c .before .check .ensures .0)
+returns c = c .reply-numbers .ensures ∙ ap replyNumbers (c .before .before .check .ensures .0)
 
 pub hfs-check-spec : {M : Type 1} → statement M
-hfs-check-spec = tie.close (tie.spec check-requires returns)
+hfs-check-spec = tie.close (tie.spec check-requires reply-numbers-requires returns)

@@ -22,7 +22,7 @@ returns c =
     let l = c .before .before in
     let img = l .before .before .args .image .now in (
       c .before .lookup-numbers .ensures ∙ ap lookupNumbers (l .lookup .ensures .0),
-      c .found-data .ensures ∙ ap (λ (r : Lookup). dataBytes img (foundPart img (r .answer))) (l .lookup .ensures .0),
+      c .found-data .ensures ∙ ap (λ (r : Lookup). dataBytes img (foundPart (r .answer))) (l .lookup .ensures .0),
     )
 
 pub hfs-lookup-spec : {M : Type 1} → statement M

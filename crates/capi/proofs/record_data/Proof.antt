@@ -1,5 +1,5 @@
 -- `record_data` meets its contract. The loop keeps that the bytes before k are the image's. Assumes nothing.
-use Prim.Native.Nat.{ℕ, _+_, _-_, _≤_, _<_}
+use Prim.Native.Nat.{ℕ, _+_, _-_, _*_, _≤_, _<_}
 use mathlib.Core.Path.{_≡_}
 use native.Mathlib.Omega.{arith}
 use lib.ListN.{length, getD, length-set}
@@ -9,16 +9,25 @@ use Rattle.capi.proofs.record_data.Statement.{statement}
 use Rattle.capi.proofs.record_data.Tie as tie
 
 abbrev Inv-loop : tie.InvT-loop
-Inv-loop image node i at data₀ k₀ «data» k = (k ≤ 12) × (length «data» ≡ 12) × ((j : ℕ) → j < k → getD «data» j 0 ≡ getD image (at + j) 0)
+Inv-loop image at data₀ k₀ «data» k = (k ≤ 12) × (length «data» ≡ 12) × ((j : ℕ) → j < k → getD «data» j 0 ≡ getD image (at + j) 0)
 
 abbrev μ-loop : tie.MeasureT-loop
-μ-loop image node i at data₀ k₀ «data» k = 12 - k
+μ-loop image at data₀ k₀ «data» k = 12 - k
 
-record-at-requires : tie.Need-record-at-requires Inv-loop μ-loop
-record-at-requires c κs = search needs
+cast-at : tie.Need-cast-at Inv-loop μ-loop
+cast-at c = search needs
+
+mul-at : tie.Need-mul-at Inv-loop μ-loop
+mul-at c = search needs
+
+cast-at-2 : tie.Need-cast-at-2 Inv-loop μ-loop
+cast-at-2 c = search needs
 
 add-at : tie.Need-add-at Inv-loop μ-loop
 add-at c = search needs
+
+add-at-2 : tie.Need-add-at-2 Inv-loop μ-loop
+add-at-2 c = search needs
 
 loop-holds : tie.Need-loop-holds Inv-loop μ-loop
 loop-holds c = search needs
@@ -52,9 +61,9 @@ loop-again c =
 
 returns : tie.Need-returns Inv-loop μ-loop
 returns c =
-    let r = c .before .before in
-    let v = c .before .loop .inv in
-    rw (← r .record-at .ensures .0) (twelve-bytes (r .before .before .args .image .now) _ (r .record-at .result + 8) (v .1) (λ j u. v .2 j (omega arith)))
+    let l = c .before in
+    let a = l .before .before .before .before .args in
+    twelve-bytes (a .image .now) _ (a .place .node * 512 + a .place .offset + 8) (l .loop .inv .1) (λ j u. l .loop .inv .2 j (omega arith))
 
 pub record-data-spec : {M : Type 1} → statement M
 record-data-spec =
@@ -62,8 +71,11 @@ record-data-spec =
     (tie.spec
     Inv-loop
     μ-loop
-    record-at-requires
+    cast-at
+    mul-at
+    cast-at-2
     add-at
+    add-at-2
     loop-holds
     add-byte-at
     byte-at-requires

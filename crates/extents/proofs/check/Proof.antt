@@ -35,17 +35,25 @@ tree-passed c = sym (ap (λ (t : Verdict). t .number) (c .before .before .tree-t
 length-right-requires : tie.Need-length-right-requires
 length-right-requires c κs = search needs
 
+at-node-requires : tie.Need-at-node-requires
+at-node-requires c κs = search needs
+
 returns : tie.Need-returns
-returns c = let img = c .before .before .before .args .image .now in
-    both img _ (sym (fault-1 hfs img format (sym (c .before .length-right .ensures) ∙ not-true _ (c .if1 .taken))))
+returns c = let l = c .before .before in
+    let img = l .before .before .args .image .now in
+    both img _ (c .at-node .ensures ∙ sym (fault-1 hfs img format (sym (l .length-right .ensures) ∙ not-true _ (c .before .if1 .taken))))
 
 header-right-requires : tie.Need-header-right-requires
 header-right-requires c κs = search needs
 
+at-node-requires-2 : tie.Need-at-node-requires-2
+at-node-requires-2 c κs = search needs
+
 returns-2 : tie.Need-returns-2
-returns-2 c = let a = c .before .before in
+returns-2 c = let h = c .before .before in
+    let a = h .before in
     let img = a .before .before .before .args .image .now in
-    both img _ (sym (fault-2 hfs img format (length-passed a) (sym (c .before .header-right .ensures) ∙ not-true _ (c .if2 .taken))))
+    both img _ (c .at-node2 .ensures ∙ sym (fault-2 hfs img format (length-passed a) (sym (h .header-right .ensures) ∙ not-true _ (c .before .if2 .taken))))
 
 map-chain-requires : tie.Need-map-chain-requires
 map-chain-requires c κs = let b = c in
@@ -53,11 +61,13 @@ map-chain-requires c κs = let b = c in
     few (a .before .before .before .args .image .now) (length-passed a) (header-passed b)
 
 returns-3 : tie.Need-returns-3
-returns-3 c = let b = c .before .before .before in
+returns-3 c = let t = c .before in
+    let m = t .before .before in
+    let b = m .before in
     let a = b .before .before in
     let img = a .before .before .before .args .image .now in
-    let e = c .before .before .map-chain .ensures .verdict in
-    both img _ (e ∙ sym (fault-3 hfs img format (length-passed a) (header-passed b) (λ z. c .if3 .taken (ap (λ (t : Verdict). t .number) e ∙ z))))
+    let e = m .map-chain .ensures .verdict in
+    both img _ (e ∙ sym (fault-3 hfs img format (length-passed a) (header-passed b) (λ z. t .if3 .taken (ap (λ (t : Verdict). t .number) e ∙ z))))
 
 tree-tests-requires : tie.Need-tree-tests-requires
 tree-tests-requires c κs = let x = c .before in
@@ -66,12 +76,14 @@ tree-tests-requires c κs = let x = c .before in
     begins (a .before .before .before .args .image .now) (length-passed a) (header-passed b) (chain-passed x) _ (x .before .before .map-chain .ensures) (x .if3 .left)
 
 returns-4 : tie.Need-returns-4
-returns-4 c = let x = c .before .before .before .before in
+returns-4 c = let t = c .before in
+    let w = t .before .before in
+    let x = w .before .before in
     let b = x .before .before .before in
     let a = b .before .before in
     let img = a .before .before .before .args .image .now in
-    let e = c .before .before .tree-tests .ensures .verdict in
-    both img _ (e ∙ sym (fault-tree hfs img format (length-passed a) (header-passed b) (chain-passed x) (λ z. c .if4 .taken (ap (λ (t : Verdict). t .number) e ∙ z))))
+    let e = w .tree-tests .ensures .verdict in
+    both img _ (e ∙ sym (fault-tree hfs img format (length-passed a) (header-passed b) (chain-passed x) (λ z. t .if4 .taken (ap (λ (t : Verdict). t .number) e ∙ z))))
 
 map-tests-requires : tie.Need-map-tests-requires
 map-tests-requires c κs = let x = c .before .before .before .before .before in
@@ -95,8 +107,10 @@ check-spec =
     tie.close
     (tie.spec
     length-right-requires
+    at-node-requires
     returns
     header-right-requires
+    at-node-requires-2
     returns-2
     map-chain-requires
     returns-3

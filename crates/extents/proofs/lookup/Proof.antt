@@ -26,14 +26,19 @@ lawful c = said (decLawful _) (sym (c .before .is-lawful .ensures) ∙ not-false
 is-lawful-requires : tie.Need-is-lawful-requires
 is-lawful-requires c κs = search needs
 
+at-node-requires : tie.Need-at-node-requires
+at-node-requires c κs = search needs
+
 refusal-requires : tie.Need-refusal-requires
 refusal-requires c κs = search needs
 
 returns : tie.Need-returns
-returns c = let w = c .before .before in
+returns c = let t = c .before .before in
+    let w = t .before in
     let s = w .before .before in
     answered (s .args .image .now) (bytes (w .before)) _ (asked-inRange s) _
-    (c .refusal .ensures ∙ sym (lookup-unlawful _ (bytes (w .before)) _ (asked-inRange s) (unsaid (decLawful _) (sym (w .is-lawful .ensures) ∙ not-true _ (c .before .if1 .taken)))))
+    (c .refusal .ensures ∙ ap (λ (x : Verdict). refused (x .number) (x .place)) (c .before .at-node .ensures)
+    ∙ sym (lookup-unlawful _ (bytes (w .before)) _ (asked-inRange s) (unsaid (decLawful _) (sym (w .is-lawful .ensures) ∙ not-true _ (t .if1 .taken)))))
 
 check-requires : tie.Need-check-requires
 check-requires c κs = search needs
@@ -73,6 +78,7 @@ lookup-spec =
     tie.close
     (tie.spec
     is-lawful-requires
+    at-node-requires
     refusal-requires
     returns
     check-requires

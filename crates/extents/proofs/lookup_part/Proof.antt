@@ -35,7 +35,7 @@ data-of-requires : tie.Need-data-of-requires
 data-of-requires c κs = let r = c .before in
     let l = r .before .before in
     let s = l .before .before in
-    found-inside (s .args .image .now) (bytes (l .before)) (key s) (key-inRange s) _ _ (answers l _ (r .answer .given .1))
+    found-inside (s .args .image .now) (bytes (l .before)) (key s) (key-inRange s) _ (answers l _ (r .answer .given .1))
 
 enum-told : tie.Need-enum-told
 enum-told c = search needs

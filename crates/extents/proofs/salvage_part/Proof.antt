@@ -1,6 +1,6 @@
 -- `salvage_part` meets its contract: what is seen is a match, and a match has its data in the image. Assumes nothing.
 use mathlib.Core.Path.{sym, _∙_}
-use Rattle.extents.proofs.Matches.{seen-match, match-inside}
+use Rattle.extents.proofs.Matches.{seen-inside}
 use borrow.Author.Needs.{needs}
 use Rattle.extents.proofs.salvage_part.Statement.{statement}
 use Rattle.extents.proofs.salvage_part.Tie as tie
@@ -8,12 +8,11 @@ use Rattle.extents.proofs.salvage_part.Tie as tie
 salvage-requires : tie.Need-salvage-requires
 salvage-requires c κs = search needs
 
-enum-known-node : tie.Need-enum-known-node
-enum-known-node c = search needs
+enum-known-place : tie.Need-enum-known-place
+enum-known-place c = search needs
 
 data-of-requires : tie.Need-data-of-requires
-data-of-requires c κs = let n = c .before in
-    match-inside _ _ _ _ (seen-match _ _ _ (n .before .before .salvage .ensures .1) _ _ (n .node .given .1))
+data-of-requires c κs = let p = c .before in seen-inside _ _ _ (p .before .before .salvage .ensures .1) _ (p .place .given .1)
 
 enum-told : tie.Need-enum-told
 enum-told c = search needs
@@ -29,7 +28,7 @@ no-part-requires-2 c κs = search needs
 
 returns : tie.Need-returns
 returns c = let n = c .before .before in
-    rw (sym (n .before .before .salvage .ensures .0) ∙ n .node .given .1) (c .data-of .ensures)
+    rw (sym (n .before .before .salvage .ensures .0) ∙ n .place .given .1) (c .data-of .ensures)
 
 returns-2 : tie.Need-returns-2
 returns-2 c = rw (sym (c .before .before .before .salvage .ensures .0) ∙ c .before .enum-told .given .1) (c .no-part .ensures)
@@ -42,7 +41,7 @@ salvage-part-spec =
     tie.close
     (tie.spec
     salvage-requires
-    enum-known-node
+    enum-known-place
     data-of-requires
     enum-told
     no-part-requires

@@ -21,7 +21,7 @@ visited-long c = search needs
 
 -- what the tests find, in terms of the walk
 tests : (c : tie.After-tested) → let a = c .before .before .before .before .before .before .before .before .args in let v = view (a .image .now) in
-    c .tested .result ≡ test v (freshIn (v .total) (a .t2 .visited) (a .node)) (lastAt (a .t2) (a .level)) (entry (a .node) (a .parent) (a .level) (a .low) (a .high))
+    c .tested .result ≡ test v (freshIn (v .total) (a .t2 .visited) (a .node)) (lastAt (a .t2) (a .level)) (entry (a .node) (a .from) (a .level) (a .low) (a .high))
 unfolding viewOf
 tests c = c .tested .ensures ∙ rw (c .before .before .is-fresh .ensures, c .before .before .before .be32 .ensures)
 
@@ -32,7 +32,7 @@ fresh c =
     let a = c .before .before .before .before .before .before .before .before .before .before .args in
     let v = view (a .image .now) in
     fresh-free (v .total) (a .t2 .visited) (a .node)
-    (test-zero v (freshIn (v .total) (a .t2 .visited) (a .node)) (lastAt (a .t2) (a .level)) (entry (a .node) (a .parent) (a .level) (a .low) (a .high))
+    (test-zero v (freshIn (v .total) (a .t2 .visited) (a .node)) (lastAt (a .t2) (a .level)) (entry (a .node) (a .from) (a .level) (a .low) (a .high))
     (sym (ap (λ (t : Verdict). t .number) (tests (c .before .before))) ∙ c .if1 .left) .0)
 
 be32-requires : tie.Need-be32-requires
@@ -60,7 +60,7 @@ returns c = let t = c .before .before .before in
     record {
       is =
           c .stopped-at .ensures
-          ∙ sym (step-stops (view (a .image .now)) (a .t2) (entry (a .node) (a .parent) (a .level) (a .low) (a .high)) (t .tested .result) (s .pre .clear) (tests t) (c .before .if1 .taken));
+          ∙ sym (step-stops (view (a .image .now)) (a .t2) (entry (a .node) (a .from) (a .level) (a .low) (a .high)) (t .tested .result) (s .pre .clear) (tests t) (c .before .if1 .taken));
       small = rw (c .stopped-at .ensures) (small-stopped _ _ (s .pre .small));
     }
 
@@ -86,7 +86,7 @@ returns-2 c = let n = c .before .before in
       is =
           c .kept-at .ensures
           ∙ rw (leaf, c .before .count-of .ensures .0)
-          (sym (step-keeps v (a .t2) (entry (a .node) (a .parent) (a .level) (a .low) (a .high)) (t .tested .result) (p .clear) (tests t) (n .if1 .left)));
+          (sym (step-keeps v (a .t2) (entry (a .node) (a .from) (a .level) (a .low) (a .high)) (t .tested .result) (p .clear) (tests t) (n .if1 .left)));
       small =
           rw (c .kept-at .ensures, leaf)
           (small-kept (a .t2) (a .node) (a .level) _ _ (omega (arith, f .range, p .few)) (visited-long s) (f .unmarked) (c .before .count-of .ensures .1) (p .small));

@@ -6,6 +6,7 @@ use Prim.Native.Nat.{_-_}
 use mathlib.Core.List.{[]}
 use mathlib.Core.Option.{none}
 use mathlib.Core.Path.{_≡_, refl, sym, _∙_}
+use Rattle.btree.specs.Places.{imageStart, rootField}
 use Rattle.btree.specs.Walk.{entries}
 use Rattle.btree.specs.Header.{viewOf}
 use Rattle.walk.specs.Visit.{steps}
@@ -22,14 +23,14 @@ long c = search needs
 
 -- the state that the walk begins with
 abbrev start : tie.Start → Walk
-start c = record { visited = c .args .visited .bits; last = replicate 8 0; records = 0; first = 0; nodes = c .args .nodes; number = 0; place = 0 }
+start c = record { visited = c .args .visited .bits; last = replicate 8 0; records = 0; first = 0; nodes = c .args .nodes; number = 0; place = imageStart }
 
 began : (c : tie.Start) → Agrees (view (c .args .image .now)) (start c) []
 began c = begun (view (c .args .image .now)) (start c) (long c) (c .pre .marks) (c .pre .count) refl refl refl refl
 
 -- what the visit of the root gives
 walked : (c : tie.After-visit) → let s = c .before .before .before .before .before .before in let v = view (s .args .image .now) in
-    c .visit .result ≡ steps v (start s) (entries v (v .depth - 1) 0 0 none none (v .root))
+    c .visit .result ≡ steps v (start s) (entries v (v .depth - 1) 0 rootField none none (v .root))
 unfolding viewOf
 walked c = c .visit .ensures .is ∙ rw (c .before .before .before .be16 .ensures .0, c .before .be32 .ensures, bound-none)
 

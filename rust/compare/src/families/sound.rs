@@ -13,7 +13,7 @@ pub fn random(comparison: &mut Comparison, seed: u64) {
             ask_all(comparison, &Plan::random(seed + turn, depth, 12));
         }
     }
-    for built in [samples::two_level(), samples::three_level()] {
+    for built in [samples::two_level(), samples::three_level(), samples::falling_map_nodes()] {
         comparison.ask(&built.image, keys::with_neighbours(&built));
     }
 }

@@ -3,27 +3,31 @@
 use crate::comparison::Comparison;
 use crate::keys;
 use images::spoil::spoilings;
-use images::{build, samples, Plan, Rng};
+use images::{build, samples, Built, Plan, Rng};
 
 /// Every fault that the table has, alone and with one other.
 pub fn by_the_table(comparison: &mut Comparison, seed: u64) {
     let mut rng = Rng::new(seed);
     for depth in 0..=8 {
         for turn in 0..4 {
-            let built = build(&Plan::random(seed + turn, depth, 5));
-            let known = spoilings(&built);
-            let asked = keys::with_neighbours(&built);
-            for spoiling in &known {
-                let mut image = built.image.clone();
-                spoiling.apply(&mut image);
-                comparison.ask(&image, keys::some(&mut rng, &asked, 2));
-                let other = &known[rng.index(known.len())];
-                // A changed length would leave the other fault no room.
-                if other.number != 1 && spoiling.number != 1 {
-                    other.apply(&mut image);
-                    comparison.ask(&image, keys::some(&mut rng, &asked, 1));
-                }
-            }
+            each_fault(comparison, &mut rng, &build(&Plan::random(seed + turn, depth, 5)));
+        }
+    }
+    each_fault(comparison, &mut rng, &samples::falling_map_nodes());
+}
+
+fn each_fault(comparison: &mut Comparison, rng: &mut Rng, built: &Built) {
+    let known = spoilings(built);
+    let asked = keys::with_neighbours(built);
+    for spoiling in &known {
+        let mut image = built.image.clone();
+        spoiling.apply(&mut image);
+        comparison.ask(&image, keys::some(rng, &asked, 2));
+        let other = &known[rng.index(known.len())];
+        // A changed length would leave the other fault no room.
+        if other.number != 1 && spoiling.number != 1 {
+            other.apply(&mut image);
+            comparison.ask(&image, keys::some(rng, &asked, 1));
         }
     }
 }

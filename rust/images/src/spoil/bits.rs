@@ -1,31 +1,65 @@
 //! Number 9: wrong map bits.
 
-use super::{Moment, Patch, Spoiling, Stage, Step};
+use super::{Moment, Patch, Place, Spoiling, Stage, Step};
 use crate::build::Built;
-use crate::node::{map_byte_at, HEADER_BITS, MAP_NODE_BITS, NODE_SIZE};
+use crate::node::{map_byte_at, HEADER_BITS, MAP_NODE_BITS};
+use std::ops::Range;
 
 pub fn spoilings(built: &Built) -> Vec<Spoiling> {
-    let total = built.total() as usize;
-    let carried = HEADER_BITS + built.map_chain.len() * MAP_NODE_BITS;
-    let mut bits: Vec<usize> = (0..total).collect();
-    // Beyond the last node: the next bit, the ends of the map records and the very last bit.
-    let ends = (0..=built.map_chain.len()).map(|index| HEADER_BITS + index * MAP_NODE_BITS);
-    let beyond = ends.flat_map(|end| [end - 1, end]).chain([total, carried - 1]);
-    bits.extend(beyond.filter(|&bit| bit >= total && bit < carried));
-    bits.sort_unstable();
-    bits.dedup();
-    bits.into_iter().map(|bit| flipped(built, bit)).collect()
+    let single = single_bits(built).into_iter().map(|bit| {
+        let what = format!("bit_{bit}_flipped");
+        flipped(built, what, &[bit])
+    });
+    let pairs = two_bits(built).into_iter().map(|[lowest, other]| {
+        let what = format!("bits_{lowest}_and_{other}_flipped");
+        flipped(built, what, &[lowest, other])
+    });
+    single.chain(pairs).collect()
 }
 
-fn flipped(built: &Built, bit: usize) -> Spoiling {
-    let at = map_byte_at(&built.map_chain, bit);
-    let place = bit as u32;
+/// The bits of every node and, beyond them, the next one and the ends of the map records.
+fn single_bits(built: &Built) -> Vec<usize> {
+    let total = built.total() as usize;
+    let records = map_records(built);
+    let carried = records[records.len() - 1].end;
+    let ends = records.iter().flat_map(|bits| [bits.start, bits.end - 1]);
+    let beyond = ends.chain([total]).filter(|bit| (total..carried).contains(bit));
+    let mut bits: Vec<usize> = (0..total).chain(beyond).collect();
+    bits.sort_unstable();
+    bits.dedup();
+    bits
+}
+
+/// Two bits in bytes far apart, lower first: of the two, the table asks for the lower one.
+fn two_bits(built: &Built) -> Vec<[usize; 2]> {
+    let records = map_records(built);
+    let very_last = records[records.len() - 1].end - 1;
+    let across = records.iter().map(|bits| [bits.start, very_last]);
+    let on_both_sides = records.windows(2).map(|pair| [pair[0].end - 1, pair[1].start]);
+    across.chain(on_both_sides).collect()
+}
+
+/// The bits of every map record, the header's first, numbered along the chain.
+fn map_records(built: &Built) -> Vec<Range<usize>> {
+    let ends = (0..=built.map_chain.len()).map(|nodes| HEADER_BITS + nodes * MAP_NODE_BITS);
+    let starts = [0].into_iter().chain(ends.clone());
+    starts.zip(ends).map(|(start, end)| start..end).collect()
+}
+
+/// Flips bits of different bytes, the lowest first.
+fn flipped(built: &Built, what: String, bits: &[usize]) -> Spoiling {
+    let byte_at = |bit| map_byte_at(&built.map_chain, bit);
+    let flip = |&bit: &usize| {
+        let at = byte_at(bit);
+        Patch::byte(at, built.image[at] ^ (0x80 >> (bit % 8)))
+    };
+    let place = Place::of_byte(byte_at(bits[0]));
     Spoiling {
-        what: format!("bit_{bit}_flipped"),
-        edited: (at / NODE_SIZE) as u32,
+        what,
+        edited: place.node,
         number: 9,
         place,
-        moment: Moment::at(Stage::Bits, place, Step::Whole),
-        patches: vec![Patch::byte(at, built.image[at] ^ (0x80 >> (bit % 8)))],
+        moment: Moment::at(Stage::Bits, bits[0] as u32, Step::Whole),
+        patches: bits.iter().map(flip).collect(),
     }
 }

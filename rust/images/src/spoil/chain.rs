@@ -1,6 +1,6 @@
 //! Number 3: faults of the map chain.
 
-use super::{Moment, Patch, Spoiling, Stage, Step};
+use super::{Moment, Patch, Place, Spoiling, Stage, Step};
 use crate::build::Built;
 use crate::node::{HEADER_BITS, MAP_NODE_BITS, NODE_SIZE};
 
@@ -67,6 +67,13 @@ fn fields(number: u32, turn: u32) -> Vec<Spoiling> {
     faults.map(|(what, patch)| spoiling(what, number, number, moment, patch)).into()
 }
 
-fn spoiling(what: &str, edited: u32, place: u32, moment: Moment, patch: Patch) -> Spoiling {
-    Spoiling { what: what.to_string(), edited, number: 3, place, moment, patches: vec![patch] }
+fn spoiling(what: &str, edited: u32, at_fault: u32, moment: Moment, patch: Patch) -> Spoiling {
+    Spoiling {
+        what: what.to_string(),
+        edited,
+        number: 3,
+        place: Place::of_node(at_fault),
+        moment,
+        patches: vec![patch],
+    }
 }

@@ -1,7 +1,7 @@
 //! Number 4: child numbers that cannot be.
 
 use super::family::{visit_order, Member};
-use super::{Moment, Patch, Spoiling, Stage, Step};
+use super::{Moment, Patch, Place, Spoiling, Stage, Step};
 use crate::build::Built;
 use crate::node::{INDEX_RECORD_SIZE, RECORDS_AT};
 
@@ -11,42 +11,35 @@ pub fn spoilings(built: &Built) -> Vec<Spoiling> {
     for (visit, &member) in order.iter().enumerate() {
         let moment = Moment::at(Stage::Tree, visit as u32, Step::Child);
         for (what, value) in wrong_numbers(built, member) {
-            found.push(spoiling(built, member, moment, what, value));
+            found.push(spoiling(built, member, moment, &what, value));
         }
     }
     found
 }
 
 /// Numbers that cannot stand where the number of this node stands.
-fn wrong_numbers(built: &Built, member: Member) -> Vec<(&'static str, u32)> {
+fn wrong_numbers(built: &Built, member: Member) -> Vec<(String, u32)> {
     let mut wrong = vec![("0", 0), ("total", built.total()), ("far_out", u32::MAX)];
-    let map_nodes = built.map_chain.iter();
-    wrong.extend(map_nodes.map(|&number| ("map_node", number)));
     if let Some((parent, _)) = member.parent(built) {
         wrong.push(("parent", parent.number(built)));
         wrong.push(("root", built.levels[0].numbers[0]));
         // The node before on the level has been visited by then, with all its ancestors.
         wrong.extend(member.before(built).map(|number| ("neighbour", number)));
     }
-    wrong
+    let map_nodes = built.map_chain.iter();
+    let map_nodes = map_nodes.map(|&number| (format!("map_node_{number}"), number));
+    wrong.into_iter().map(|(what, number)| (what.to_string(), number)).chain(map_nodes).collect()
 }
 
 fn spoiling(built: &Built, member: Member, moment: Moment, what: &str, value: u32) -> Spoiling {
-    let (what, edited, at) = match member.parent(built) {
-        None => (format!("root_is_{what}"), 0, 16),
+    let (what, at) = match member.parent(built) {
+        None => (format!("root_is_{what}"), 16),
         Some((parent, record)) => {
             let at = parent.at(built) + RECORDS_AT + record * INDEX_RECORD_SIZE + 8;
-            let what = format!("child_{record}_is_{what}");
-            (what, parent.number(built), at)
+            (format!("child_{record}_is_{what}"), at)
         }
     };
-    Spoiling {
-        what,
-        edited,
-        number: 4,
-        // The parent is at fault, and for the root that is the header.
-        place: edited,
-        moment,
-        patches: vec![Patch::long(at, value)],
-    }
+    let place = Place::of_byte(at);
+    let patches = vec![Patch::long(at, value)];
+    Spoiling { what, edited: place.node, number: 4, place, moment, patches }
 }

@@ -1,7 +1,7 @@
 //! Number 5: faults in the form of a tree node.
 
 use super::family::{visit_order, Member};
-use super::{Moment, Patch, Spoiling, Stage, Step};
+use super::{Moment, Patch, Place, Spoiling, Stage, Step};
 use crate::build::Built;
 use crate::node::*;
 
@@ -122,7 +122,14 @@ pub fn record_size(built: &Built, member: Member) -> usize {
     }
 }
 
-fn spoiling(what: String, edited: u32, place: u32, visit: usize, patches: Vec<Patch>) -> Spoiling {
+fn spoiling(
+    what: String,
+    edited: u32,
+    at_fault: u32,
+    visit: usize,
+    patches: Vec<Patch>,
+) -> Spoiling {
+    let place = Place::of_node(at_fault);
     let moment = Moment::at(Stage::Tree, visit as u32, Step::Form);
     Spoiling { what, edited, number: 5, place, moment, patches }
 }

@@ -1,6 +1,6 @@
 //! Number 2: faults of the header node.
 
-use super::{Moment, Patch, Spoiling, Stage};
+use super::{Moment, Patch, Place, Spoiling, Stage};
 use crate::build::Built;
 
 pub fn spoilings(built: &Built) -> Vec<Spoiling> {
@@ -53,7 +53,7 @@ fn spoiling(what: &str, patch: Patch) -> Spoiling {
         what: what.to_string(),
         edited: 0,
         number: 2,
-        place: 0,
+        place: Place::START,
         moment: Moment::once(Stage::Header),
         patches: vec![patch],
     }

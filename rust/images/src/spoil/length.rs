@@ -1,6 +1,6 @@
 //! Number 1: lengths that are no whole number of nodes from 1 to 6,000.
 
-use super::{Moment, Patch, Spoiling, Stage};
+use super::{Moment, Patch, Place, Spoiling, Stage};
 use crate::build::Built;
 use crate::node::{MOST_NODES, NODE_SIZE};
 
@@ -21,7 +21,7 @@ fn resized(what: &str, len: usize) -> Spoiling {
         what: what.to_string(),
         edited: 0,
         number: 1,
-        place: 0,
+        place: Place::START,
         moment: Moment::once(Stage::Length),
         patches: vec![Patch::Resize(len)],
     }

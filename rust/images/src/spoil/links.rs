@@ -1,21 +1,31 @@
 //! Number 7: wrong links between the nodes of a level.
 
 use super::family::{visit_order, Member};
-use super::{Moment, Patch, Spoiling, Stage, Step};
+use super::{Moment, Patch, Place, Spoiling, Stage, Step};
 use crate::build::Built;
+use crate::node::NODE_SIZE;
+
+const FORWARD: usize = 0;
+const BACK: usize = 4;
 
 pub fn spoilings(built: &Built) -> Vec<Spoiling> {
     let order = visit_order(built);
     let mut found = Vec::new();
     for (visit, &member) in order.iter().enumerate() {
+        let at = member.at(built);
         let back = Moment::at(Stage::Tree, visit as u32, Step::BackLink);
         let forward = forward_moment(built, &order, member);
         for (what, value) in wrong_links(built, member, member.before(built)) {
-            found.push(spoiling(built, member, format!("back_link_{what}"), 4, value, back));
+            let patches = vec![Patch::long(at + BACK, value)];
+            found.push(spoiling(format!("back_link_{what}"), at + BACK, back, patches));
         }
         let after = member.after(built).map(|after| after.number(built));
         for (what, value) in wrong_links(built, member, after) {
-            found.push(spoiling(built, member, format!("forward_link_{what}"), 0, value, forward));
+            let patches = vec![Patch::long(at + FORWARD, value)];
+            found.push(spoiling(format!("forward_link_{what}"), at + FORWARD, forward, patches));
+        }
+        for (what, patches) in with_wrong_back_link(built, member) {
+            found.push(spoiling(what.to_string(), at + BACK, back, patches));
         }
     }
     found
@@ -41,20 +51,20 @@ fn wrong_links(built: &Built, member: Member, right: Option<u32>) -> Vec<(&'stat
     wrong
 }
 
-fn spoiling(
-    built: &Built,
-    member: Member,
-    what: String,
-    field: usize,
-    value: u32,
-    moment: Moment,
-) -> Spoiling {
-    Spoiling {
-        what,
-        edited: member.number(built),
-        number: 7,
-        place: member.number(built),
-        moment,
-        patches: vec![Patch::long(member.at(built) + field, value)],
+/// Two wrong links, of which the node's back link is looked at first.
+fn with_wrong_back_link(built: &Built, member: Member) -> Vec<(&'static str, Vec<Patch>)> {
+    let at = member.at(built);
+    let own = vec![Patch::long(at + BACK, u32::MAX), Patch::long(at + FORWARD, u32::MAX)];
+    let mut found = vec![("both_links_far_out", own)];
+    if let Some(before) = member.before(built) {
+        let before_at = before as usize * NODE_SIZE;
+        let cut = vec![Patch::long(at + BACK, 0), Patch::long(before_at + FORWARD, 0)];
+        found.push(("cut_off_from_the_node_before", cut));
     }
+    found
+}
+
+fn spoiling(what: String, link_at: usize, moment: Moment, patches: Vec<Patch>) -> Spoiling {
+    let place = Place::of_byte(link_at);
+    Spoiling { what, edited: place.node, number: 7, place, moment, patches }
 }

@@ -1,4 +1,4 @@
-//! Spoilings: single faults put into a sound image, with what the table says of each.
+//! Spoilings: faults put into a sound image, most of them single, with what the table says of each.
 
 mod bits;
 mod chain;
@@ -9,20 +9,22 @@ mod header;
 mod length;
 mod links;
 mod order;
+mod place;
 mod totals;
 
 use crate::build::Built;
+pub use place::Place;
 
-/// One fault, as changes to a sound image.
+/// Changes to a sound image and the fault that the table answers them with.
 #[derive(Clone, Debug)]
 pub struct Spoiling {
     /// What is wrong, fit for a file name.
     pub what: String,
-    /// The node whose bytes are changed.
+    /// The node whose bytes are changed, or one of them.
     pub edited: u32,
     /// The number and place that the table gives the fault.
     pub number: u32,
-    pub place: u32,
+    pub place: Place,
     /// When the order of tests comes to it.
     pub moment: Moment,
     pub patches: Vec<Patch>,

@@ -1,6 +1,6 @@
 //! Numbers 8 and 10: header totals that do not agree with the tree.
 
-use super::{Moment, Patch, Spoiling, Stage};
+use super::{Moment, Patch, Place, Spoiling, Stage};
 use crate::build::Built;
 
 /// Number 8; at depth 0 the same fields are the header's fault.
@@ -38,5 +38,12 @@ pub fn free_spoilings(built: &Built) -> Vec<Spoiling> {
 }
 
 fn spoiling(what: &str, number: u32, moment: Moment, patch: Patch) -> Spoiling {
-    Spoiling { what: what.to_string(), edited: 0, number, place: 0, moment, patches: vec![patch] }
+    Spoiling {
+        what: what.to_string(),
+        edited: 0,
+        number,
+        place: Place::START,
+        moment,
+        patches: vec![patch],
+    }
 }

@@ -1,4 +1,7 @@
 -- `records::child_of` meets its contract. Assumes nothing.
+use mathlib.Core.Path.{ap, _∙_}
+use native.Mathlib.Omega.{arith}
+use Rattle.image.specs.Bytes.{be32At}
 use Rattle.btree.specs.Header.{viewOf}
 use borrow.Author.Needs.{needs}
 use Rattle.formats.proofs.records.child_of.Statement.{statement}
@@ -15,7 +18,7 @@ be32-requires c κs = search needs
 
 returns : tie.Need-returns
 unfolding viewOf
-returns c = rw (← c .before .record-at .ensures .0) (c .be32 .ensures)
+returns c = let e = c .before .record-at .ensures .0 in c .be32 .ensures ∙ ap (be32At _) (omega arith)
 
 pub child-of-spec : {M : Type 1} → statement M
 child-of-spec = tie.close (tie.spec record-at-requires add-be32 be32-requires returns)

@@ -1,7 +1,7 @@
 -- `records::record_at` meets its contract. Assumes nothing.
 use native.Mathlib.Omega.{arith}
 use mathlib.Core.Path.{sym, _∙_}
-use Rattle.formats.specs.Format.{recordAt, kindOf}
+use Rattle.formats.specs.Format.{recordOffset, kindOf}
 use Rattle.formats.proofs.Sizes.{size-leaf, size-index}
 use borrow.Author.Needs.{needs}
 use Rattle.formats.proofs.records.record_at.Statement.{statement}
@@ -32,11 +32,11 @@ add-result-4 : tie.Need-add-result-4
 add-result-4 c = search needs
 
 returns : tie.Need-returns
-unfolding recordAt kindOf
+unfolding recordOffset kindOf
 returns c = (rw (size-leaf _ (sym (c .before .kind-of .ensures .0) ∙ c .if1 .taken)) (omega arith), omega arith)
 
 returns-2 : tie.Need-returns-2
-unfolding recordAt kindOf
+unfolding recordOffset kindOf
 returns-2 c = (rw (size-index _ (λ e. c .if1 .left (c .before .kind-of .ensures .0 ∙ e))) (omega arith), omega arith)
 
 pub record-at-spec : {M : Type 1} → statement M

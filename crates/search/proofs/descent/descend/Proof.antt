@@ -5,6 +5,7 @@ use mathlib.Core.Path.{sym, _∙_}
 use Rattle.btree.specs.Header.{viewOf}
 use Rattle.formats.specs.Format.{view}
 use Rattle.search.proofs.Stored.{Stored, stored-none, stored-root, stored-child, stops-path, ends-path}
+use Rattle.search.proofs.Narrowing.{ends-inside}
 use borrow.Author.Needs.{needs}
 use Rattle.search.proofs.descent.descend.Statement.{statement}
 use Rattle.search.proofs.descent.descend.Tie as tie
@@ -87,7 +88,9 @@ halve-requires-2 : tie.Need-halve-requires-2 Inv-loop μ-loop
 halve-requires-2 c κs = search needs
 
 in-leaf-requires : tie.Need-in-leaf-requires Inv-loop μ-loop
-in-leaf-requires c κs = search needs
+in-leaf-requires c κs = let l = c .before .before in
+    let a = l .before .before .before .before .before .args in
+    ends-inside (view (a .image .now)) (a .k) (l .loop .node) _ (c .halve2 .ensures .0)
 
 add-t25 : tie.Need-add-t25 Inv-loop μ-loop
 add-t25 c = search needs

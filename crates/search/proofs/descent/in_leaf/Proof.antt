@@ -1,5 +1,6 @@
 -- `descent::in_leaf` meets its contract. Assumes nothing.
-use mathlib.Core.Path.{sym, _∙_}
+use mathlib.Core.Path.{sym, ap, _∙_}
+use Rattle.btree.specs.declared.Answer.the-variants.{Found}
 use Rattle.formats.specs.Format.{view}
 use Rattle.search.proofs.Narrowing.{leaf-none, leaf-has, leaf-other}
 use borrow.Author.Needs.{needs}
@@ -15,16 +16,21 @@ sub-key-of c = search needs
 key-of-requires : tie.Need-key-of-requires
 key-of-requires c κs = search needs
 
-sub-t8 : tie.Need-sub-t8
-sub-t8 c = search needs
+sub-record-place : tie.Need-sub-record-place
+sub-record-place c = search needs
+
+record-place-requires : tie.Need-record-place-requires
+record-place-requires c κs = search needs
 
 returns-2 : tie.Need-returns-2
-returns-2 c = let a = c .before .before .before .before .args in
-    leaf-has (view (a .image .now)) (a .k) (a .node) (a .end) (c .before .before .if1 .left) (sym (c .before .key-of .ensures .0) ∙ c .if2 .taken)
+returns-2 c = let k = c .before .before in
+    let a = k .before .before .before .args in
+    ap Found (c .record-place .ensures)
+    ∙ leaf-has (view (a .image .now)) (a .k) (a .node) (a .end) (k .before .if1 .left) (sym (k .key-of .ensures .0) ∙ c .before .if2 .taken)
 
 returns-3 : tie.Need-returns-3
 returns-3 c = let a = c .before .before .before .before .args in
     leaf-other (view (a .image .now)) (a .k) (a .node) (a .end) (c .before .before .if1 .left) (λ e. c .if2 .left (c .before .key-of .ensures .0 ∙ e))
 
 pub in-leaf-spec : {M : Type 1} → statement M
-in-leaf-spec = tie.close (tie.spec returns sub-key-of key-of-requires sub-t8 returns-2 returns-3)
+in-leaf-spec = tie.close (tie.spec returns sub-key-of key-of-requires sub-record-place record-place-requires returns-2 returns-3)

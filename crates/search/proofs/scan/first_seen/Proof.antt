@@ -1,9 +1,14 @@
 -- `scan::first_seen` meets its contract: the nodes that are left give what all give. Assumes nothing.
 use Prim.Native.Nat.{_-_, _/_, _≤_}
-use mathlib.Core.Path.{_≡_, refl, sym, _∙_}
+use mathlib.Core.Path.{_≡_, refl, sym, ap, _∙_}
+use mathlib.Core.Option.{some}
 use lib.ListN.{length}
-use Rattle.search.specs.Seen.{seenFrom}
-use Rattle.search.proofs.Looking.{place-at, place-nowhere, seen-end, seen-here, seen-on}
+use Rattle.btree.specs.declared.Salvage.the-variants.{Seen}
+use Rattle.btree.specs.Header.{viewOf}
+use Rattle.btree.proofs.Hits.{hit-at, hit-nowhere}
+use Rattle.search.specs.Seen.{seenIn, seenFrom}
+use Rattle.search.proofs.Looking.{seen-end, seen-here, seen-on}
+use Rattle.search.proofs.Matches.{seen-some}
 use borrow.Author.Needs.{needs}
 use Rattle.search.proofs.scan.first_seen.Statement.{statement}
 use Rattle.search.proofs.scan.first_seen.Tie as tie
@@ -26,10 +31,19 @@ seen-in-requires c κs = search needs
 enum-known-i : tie.Need-enum-known-i Inv-loop μ-loop
 enum-known-i c = search needs
 
+-- the record that the node has
+seen : (c : tie.After-i Inv-loop μ-loop) → let s = c .before .before in let a = s .before .before .before .before .args in
+    seenIn (a .image .now) (a .k) (s .before .before .loop .node) ≡ some (c .i .given .0 .0)
+seen c = hit-at _ _ (sym (c .before .before .seen-in .ensures) ∙ c .i .given .1)
+
+record-place-requires : tie.Need-record-place-requires Inv-loop μ-loop
+unfolding viewOf
+record-place-requires c κs = seen-some _ _ _ _ (seen (c .before)) .0 .inside
+
 returns : tie.Need-returns Inv-loop μ-loop
 returns c =
-    let s = c .before .before .before in
-    sym (s .before .before .loop .inv .2 ∙ seen-here _ _ _ _ _ (s .before .loop-test .taken) (place-at _ _ (sym (s .seen-in .ensures) ∙ c .before .i .given .1)))
+    let s = c .before .before .before .before in
+    ap Seen (c .record-place .ensures) ∙ sym (s .before .before .loop .inv .2 ∙ seen-here _ _ _ _ _ (s .before .loop-test .taken) (seen (c .before .before)))
 
 enum-told : tie.Need-enum-told Inv-loop μ-loop
 enum-told c = search needs
@@ -43,7 +57,7 @@ loop-less c = search needs
 loop-again : tie.Need-loop-again Inv-loop μ-loop
 loop-again c =
     let s = c .before .before in
-    (search needs, search needs, s .before .before .loop .inv .2 ∙ seen-on _ _ _ _ (s .before .loop-test .taken) (place-nowhere _ (sym (s .seen-in .ensures) ∙ c .enum-told .given .1)))
+    (search needs, search needs, s .before .before .loop .inv .2 ∙ seen-on _ _ _ _ (s .before .loop-test .taken) (hit-nowhere _ (sym (s .seen-in .ensures) ∙ c .enum-told .given .1)))
 
 returns-2 : tie.Need-returns-2 Inv-loop μ-loop
 returns-2 c = sym (c .before .loop .inv .2 ∙ seen-end _ _ _ _ (c .loop-test .left))
@@ -58,6 +72,7 @@ first-seen-spec =
     loop-holds
     seen-in-requires
     enum-known-i
+    record-place-requires
     returns
     enum-told
     add-node

@@ -37,8 +37,15 @@ last-on-requires c κs = search needs
 leads-requires : tie.Need-leads-requires Inv-loop μ-loop
 leads-requires c κs = search needs
 
+at-byte-requires : tie.Need-at-byte-requires Inv-loop μ-loop
+at-byte-requires c κs = search needs
+
 returns : tie.Need-returns Inv-loop μ-loop
-returns c = rw (c .before .before .last-on .ensures) (sym (c .before .before .before .before .loop .inv .1 ∙ ends-stop _ _ _ _ _ (c .before .before .before .loop-test .taken) (rw (← c .before .before .last-on .ensures) (sym (c .before .leads .ensures) ∙ not-true _ (c .if1 .taken)))))
+returns c = let l = c .before .before in
+    let p = l .before in
+    c .at-byte .ensures
+    ∙ rw (p .last-on .ensures)
+    (sym (p .before .before .loop .inv .1 ∙ ends-stop _ _ _ _ _ (p .before .loop-test .taken) (rw (← p .last-on .ensures) (sym (l .leads .ensures) ∙ not-true _ (c .before .if1 .taken)))))
 
 add-d : tie.Need-add-d Inv-loop μ-loop
 add-d c = search needs
@@ -56,11 +63,23 @@ last-leaf-requires c κs = search needs
 totals-right-requires : tie.Need-totals-right-requires Inv-loop μ-loop
 totals-right-requires c κs = search needs
 
+at-node-requires : tie.Need-at-node-requires Inv-loop μ-loop
+at-node-requires c κs = search needs
+
 returns-2 : tie.Need-returns-2 Inv-loop μ-loop
-returns-2 c = sym (c .before .before .before .before .loop .inv .1 ∙ ends-end _ _ _ _ _ (c .before .before .before .loop-test .left) ∙ unless-false _ _ _ (rw (last-leaf (c .before .before)) at (sym (c .before .totals-right .ensures) ∙ not-true _ (c .if2 .taken))))
+returns-2 c = let t = c .before .before in
+    let l = t .before .before in
+    c .at-node .ensures
+    ∙ sym (l .before .loop .inv .1 ∙ ends-end _ _ _ _ _ (l .loop-test .left) ∙ unless-false _ _ _ (rw (last-leaf (t .before)) at (sym (t .totals-right .ensures) ∙ not-true _ (c .before .if2 .taken))))
+
+at-node-requires-2 : tie.Need-at-node-requires-2 Inv-loop μ-loop
+at-node-requires-2 c κs = search needs
 
 returns-3 : tie.Need-returns-3 Inv-loop μ-loop
-returns-3 c = sym (c .before .before .before .before .loop .inv .1 ∙ ends-end _ _ _ _ _ (c .before .before .before .loop-test .left) ∙ unless-true _ _ _ (rw (last-leaf (c .before .before)) at (sym (c .before .totals-right .ensures) ∙ not-false _ (c .if2 .left))))
+returns-3 c = let t = c .before .before in
+    let l = t .before .before in
+    c .at-node2 .ensures
+    ∙ sym (l .before .loop .inv .1 ∙ ends-end _ _ _ _ _ (l .loop-test .left) ∙ unless-true _ _ _ (rw (last-leaf (t .before)) at (sym (t .totals-right .ensures) ∙ not-false _ (c .before .if2 .left))))
 
 pub closing-tests-spec : {M : Type 1} → statement M
 closing-tests-spec =
@@ -72,11 +91,14 @@ closing-tests-spec =
     loop-holds
     last-on-requires
     leads-requires
+    at-byte-requires
     returns
     add-d
     loop-less
     loop-again
     last-leaf-requires
     totals-right-requires
+    at-node-requires
     returns-2
+    at-node-requires-2
     returns-3)

@@ -44,21 +44,21 @@ calls t = (
 )
 
 abbrev Inv : lts.InvT-loop
-Inv image node parent level below low high x₀ c i₀ x i =
+Inv image node level below low high x₀ c i₀ x i =
     (i ≤ c)
     × (steps (view image) x (span i (c - i) (kid (view image) (below - 1) level (bound high) node))
     ≡ steps (view image) x₀ (span 0 c (kid (view image) (below - 1) level (bound high) node)))
     × Small x
 
 abbrev μ : lts.MeasureT-loop
-μ image node parent level below low high x₀ c i₀ x i = c - i
+μ image node level below low high x₀ c i₀ x i = c - i
 
 module _ (t : ℕ) where
   -- what the loop is to give is what the visit is to give
   whole : (c : lts.At-loop (calls t) (pre t) visit.Post Inv μ) → let a = c .before .before .before .before .before .args in
       steps (view (a .image .now)) (c .before .before .before .stepped .result)
       (span 0 (c .before .count-of .result) (kid (view (a .image .now)) (a .below - 1) (a .level) (bound (a .high)) (a .node)))
-      ≡ steps (view (a .image .now)) (a .w) (entries (view (a .image .now)) (a .below) (a .level) (a .parent) (bound (a .low)) (bound (a .high)) (a .node))
+      ≡ steps (view (a .image .now)) (a .w) (entries (view (a .image .now)) (a .below) (a .level) (a .from) (bound (a .low)) (bound (a .high)) (a .node))
   unfolding viewOf
   whole c =
       rw (c .before .count-of .ensures .0, c .before .before .before .stepped .ensures .is)
@@ -97,14 +97,15 @@ module _ (t : ℕ) where
 
   visit-requires : lts.Need-visit-requires (calls t) (pre t) visit.Post Inv μ
   visit-requires c κs =
-      let p = c .before .before .before .before .before .before .before .before .before .pre in (
+      let e = c .before .before in
+      let p = e .before .before .before .before .before .before .before .before .pre in (
         omega (arith, p),
         record {
           few = p .1 .few;
           shallow = p .1 .shallow;
           levels = omega (arith, p .1);
-          clear = c .before .if2 .left;
-          small = c .before .before .before .before .loop .inv .2;
+          clear = e .if2 .left;
+          small = e .before .before .before .loop .inv .2;
         },
       )
 
@@ -116,10 +117,11 @@ module _ (t : ℕ) where
 
   loop-again : lts.Need-loop-again (calls t) (pre t) visit.Post Inv μ
   loop-again c =
-      let l = c .before .before .before .before .before in
+      let e = c .before .before .before in
+      let l = e .before .before .before in
       let a = l .before .before .before .before .before .args in (
         search needs,
-        sym (kids-on _ (a .below - 1) (a .level) _ _ _ _ _ _ _ (c .before .before .before .before .loop-test .taken) (c .before .pointer-at .ensures) (c .visit .ensures .is))
+        sym (kids-on _ (a .below - 1) (a .level) _ _ _ _ _ _ _ (e .before .before .loop-test .taken) (c .before .before .pointer-at .ensures) (c .visit .ensures .is))
             ∙ l .loop .inv .1,
         c .visit .ensures .small,
       )

@@ -15,6 +15,9 @@ use Rattle.walk.proofs.visit.pointer_at.Tie as tie
 child-of-requires : tie.Need-child-of-requires
 child-of-requires c κs = search needs
 
+child-place-requires : tie.Need-child-place-requires
+child-place-requires c κs = search needs
+
 key-of-requires : tie.Need-key-of-requires
 key-of-requires c κs = search needs
 
@@ -22,7 +25,16 @@ add-if1 : tie.Need-add-if1
 add-if1 c = search needs
 
 returns : tie.Need-returns
-returns c = record { child = c .before .before .child-of .ensures; low = bound-some _ (c .before .key-of .ensures .1) ∙ ap some (c .before .key-of .ensures .0); under = sym (cond-no (decLt (suc (c .before .before .before .before .args .i)) (view (c .before .before .before .before .args .image .now) .count (c .before .before .before .before .args .node))) _ _ (omega arith)) }
+returns c =
+    let k = c .before in
+    let p = k .before in
+    let a = p .before .before .before .args in
+    record {
+      child = p .before .child-of .ensures;
+      from = p .child-place .ensures;
+      low = bound-some _ (k .key-of .ensures .1) ∙ ap some (k .key-of .ensures .0);
+      under = sym (cond-no (decLt (suc (a .i)) (view (a .image .now) .count (a .node))) _ _ (omega arith));
+    }
 
 add-key-of : tie.Need-add-key-of
 add-key-of c = search needs
@@ -32,11 +44,14 @@ key-of-requires-2 c κs = search needs
 
 returns-2 : tie.Need-returns-2
 returns-2 c =
-    let a = c .before .before .before .before .before .args in
+    let k = c .before .before in
+    let p = k .before in
+    let a = p .before .before .before .args in
     let v = view (a .image .now) in
     record {
-      child = c .before .before .before .child-of .ensures;
-      low = bound-some _ (c .before .before .key-of .ensures .1) ∙ ap some (c .before .before .key-of .ensures .0);
+      child = p .before .child-of .ensures;
+      from = p .child-place .ensures;
+      low = bound-some _ (k .key-of .ensures .1) ∙ ap some (k .key-of .ensures .0);
       under =
           bound-some _ (c .key-of2 .ensures .1) ∙ ap some (c .key-of2 .ensures .0 ∙ ap (v .key (a .node)) (add-one (a .i)))
           ∙ sym (cond-yes (decLt (suc (a .i)) (v .count (a .node))) _ _ (omega arith));
@@ -47,6 +62,7 @@ pointer-at-spec =
     tie.close
     (tie.spec
     child-of-requires
+    child-place-requires
     key-of-requires
     add-if1
     returns
