@@ -1,7 +1,7 @@
 -- The search for a key as the code makes it: record after record of a node, node after node of an image.
 -- Assumes nothing.
 use mathlib.Core.Path.{_≡_}
-use mathlib.Core.Logic.{_≢_}
+use mathlib.Core.Logic.{_≢_, Dec·not}
 use mathlib.Core.Bool.{true, false}
 use mathlib.Core.Option.{none, some}
 use mathlib.Core.List.{List}
@@ -10,7 +10,7 @@ use native.Mathlib.Decide.{ℕ-discrete}
 use native.Mathlib.Numerals.{add-one}
 use Rattle.btree.specs.declared.Salvage.the-variants.{Seen, NotSeen}
 use Rattle.btree.specs.Places.{recordPlace}
-use Rattle.btree.specs.Decide.{says}
+use Rattle.btree.specs.Decide.{says, firstNot}
 use Rattle.btree.specs.Tree.{View}
 use Rattle.btree.specs.Header.{viewOf}
 use Rattle.btree.specs.Search.{recordWith}
@@ -23,13 +23,16 @@ use Rattle.btree.proofs.Left.{one-more, none-left}
 -- the records of a node from i on
 module _ (v : View) (n k c i : ℕ) where
   pub with-end : c ≤ i → recordWith v n k i (c - i) ≡ none
+  unfolding firstNot
   with-end h = rw (none-left c i h)
 
   pub with-here : i < c → v .key n i ≡ k → recordWith v n k i (c - i) ≡ some i
-  with-here h e = rw (one-more c i h) (cond-yes (ℕ-discrete (v .key n i) k) _ _ e)
+  unfolding firstNot
+  with-here h e = rw (one-more c i h) (cond-no (Dec·not (ℕ-discrete (v .key n i) k)) _ _ (λ f. f e))
 
   pub with-on : i < c → v .key n i ≢ k → recordWith v n k i (c - i) ≡ recordWith v n k (i + 1) (c - (i + 1))
-  with-on h e = rw (one-more c i h, add-one i) (cond-no (ℕ-discrete (v .key n i) k) _ _ e)
+  unfolding firstNot
+  with-on h e = rw (one-more c i h, add-one i) (cond-yes (Dec·not (ℕ-discrete (v .key n i) k)) _ _ e)
 
 -- a node, by whether it counts
 module _ (img : List ℕ) (k n : ℕ) where
