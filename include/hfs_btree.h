@@ -3,15 +3,26 @@
  *
  * Any bytes are an image, and nobody has to have checked them first. An image is only read. No call
  * allocates, keeps anything or fails: each answers by a number and a place, and writes every element
- * of `out` and `data`, whatever the answer. `image`, `out` and `data` do not overlap, and none is NULL,
- * not even an empty image.
+ * of `out` and `data`, whatever the answer. `image`, `work`, `out` and `data` do not overlap, and none
+ * is NULL, not even an empty image or no working bytes.
+ *
+ * A check and a lookup work in bytes that the caller lends, with any contents: one bit for each node of
+ * the image, so HFS_WORK_BYTES(len) of them, at most HFS_MOST_WORK_BYTES for any image that is not
+ * refused by its length. What a call leaves there:
+ *
+ *  11, 1, 16          all bytes as they were
+ *  2 to 10            the needed bytes zero
+ *  0, 12              in the needed bytes the bits of the nodes in use are set and no others: node n
+ *                     has bit 7 - n % 8 of byte n / 8, so the top bit of a byte comes first
+ *  always             the bytes beyond the needed ones as they were
  *
  * A place is a node and a byte offset in it.
  *
  *  No.  Meaning                                    Node and offset
  *   0   sound                                      0, 0
  *   0   found                                      the node, where the record starts
- *   1   length                                     0, 0
+ *   1   length: not 1 to 65,536 whole nodes of     0, 0
+ *       512 bytes
  *   2   header node                                0, 0
  *   3   map chain                                  the node at fault, 0; for a link out of range or
  *                                                  to a node already in the chain, the node that has
@@ -32,17 +43,22 @@
  *  12   absent                                     last node read, 0; 0, 0 at depth 0
  *  13   seen                                       the node, where the record starts
  *  14   not seen                                   0, 0
+ *  16   fewer working bytes than the nodes need    0, 0
  *
  * Nodes count from 0, offsets from the node's start. Record r of a leaf starts at 14 + 20 r. Levels
  * count from the leaves: leaves are the nodes of level 1, each child's level is one less than its
  * parent's, and the root's is the depth. Of several faults the first in the order of tests is the
- * answer.
+ * answer: 11, 1, 16, then 2 to 10.
  */
 #ifndef HFS_BTREE_H
 #define HFS_BTREE_H
 
 #include <stddef.h>
 #include <stdint.h>
+
+/* The working bytes that an image of so many bytes needs, and the most that any needs. */
+#define HFS_WORK_BYTES(len) (((len) / 512 + 7) / 8)
+#define HFS_MOST_WORK_BYTES 8192
 
 #ifdef __cplusplus
 extern "C" {
@@ -51,17 +67,18 @@ extern "C" {
 /*
  * Is the image sound?
  *
- * out[0]  0 for a sound image, else the number of its first fault, 1 to 10
+ * out[0]  0 for a sound image; 1 for a wrong length; 16 if that is right and too few working bytes
+ *         are lent; else the number of the image's first fault, 2 to 10
  * out[1]  the node of the fault's place
  * out[2]  the offset of the fault's place in that node
  */
-void hfs_check(const uint8_t *image, size_t len, uint32_t out[3]);
+void hfs_check(const uint8_t *image, size_t len, uint8_t *work, size_t work_len, uint32_t out[3]);
 
 /*
  * What stands under this key? The fork byte is judged first, then the whole image is checked, and
  * only then the tree is searched: found and absent are said of sound images alone.
  *
- * out[0]   0 found, 12 absent, else the number of the refusal: 11, or the image's first fault
+ * out[0]   0 found, 12 absent, else the number of the refusal: 11, or the check's own
  * out[1]   the node: found, the record's; absent, the last node read; refused, that of the place
  * out[2]   the offset: found, where the record starts in its node; absent, 0; refused, that of the
  *          place
@@ -75,15 +92,15 @@ void hfs_check(const uint8_t *image, size_t len, uint32_t out[3]);
  *          big-endian; else zeros
  */
 void hfs_lookup(const uint8_t *image, size_t len, uint32_t file, uint8_t fork, uint16_t start,
-                uint32_t out[13], uint8_t data[12]);
+                uint8_t *work, size_t work_len, uint32_t out[13], uint8_t data[12]);
 
 /*
  * What can be seen under this key in an image of any state? From node 1 up, the first record with
  * the key in a node that is a whole leaf by itself. Seen proves nothing: a freed node may hold an
- * old record.
+ * old record. It needs no working bytes.
  *
  * out[0]  13 seen, 14 not seen, else the number of the refusal: 11, or 1 for an image of more than
- *         3,072,000 bytes
+ *         33,554,432 bytes
  * out[1]  seen: the node; else 0
  * out[2]  seen: where the record starts in its node; else 0
  * data    seen: the record's 12 data bytes; else zeros

@@ -11,11 +11,6 @@ fn zero_bytes() {
     print_case(b"512 zero bytes", &image);
 }
 
-fn too_many_nodes() {
-    let image = [0u8; 3072512];
-    print_case(b"3,072,512 bytes", &image);
-}
-
 fn leaf_records(name: &[u8], n: u32, free: u32)
     requires { ⌜ n ≤ 36 ⌝ }
 {
@@ -65,7 +60,6 @@ fn map_loop() {
 
 fn main() {
     zero_bytes();
-    too_many_nodes();
     leaf_records(b"22 leaf records", 22, 0x01C6);
     leaf_records(b"23 leaf records", 23, 0x01DA);
     index_records(b"35 index records", 35, 0x01B2, 0xFFFF_FFFF, 0xF8);

@@ -1,8 +1,9 @@
-// What C and Rust call. Every element that a call is lent to write is written, whatever the answer.
+// What C and Rust call. Every element of `out` and `data` is written, whatever the answer; what is left in `work`, the answer tells.
 ghost use mathlib.Core.Path.{_≡_};
+ghost use lib.ListN.{length};
 ghost use Rattle.btree.specs.Walk.{fails};
 ghost use Rattle.btree.specs.Numbers.{lookupReply, salvageReply, replyNumbers, lookupNumbers};
-ghost use Rattle.extents.specs.Reader.{verdict, lookedUp, dataPart, foundPart, salvaged, seenPart};
+ghost use Rattle.extents.specs.Reader.{checked, Leaves, lookedUp, dataPart, foundPart, salvaged, seenPart};
 ghost use Rattle.formats.specs.Key.{asked};
 ghost use Rattle.capi.specs.Written.{dataBytes};
 use btree::Answer;
@@ -19,10 +20,11 @@ fn reply_numbers(number: u32, place: Place) -> [u32; 3]
 
 // Number, node, offset.
 #[no_mangle]
-pub extern "C" fn hfs_check(image: &[u8], out: &mut [u32; 3])
-    ensures { λ _. ⌜ now (out .exit) ≡ replyNumbers (verdict (now (image .entry))) ⌝ }
+pub extern "C" fn hfs_check(image: &[u8], work: &mut [u8], out: &mut [u32; 3])
+    ensures numbers { λ _. ⌜ now (out .exit) ≡ replyNumbers (checked (now (image .entry)) (length (now (work .entry)))) ⌝ }
+    ensures leaves { λ _. ⌜ Leaves (now (image .entry)) (checked (now (image .entry)) (length (now (work .entry))) .number) (now (work .entry)) (now (work .exit)) ⌝ }
 {
-    let t = extents::check(image);
+    let t = extents::check(image, work);
     let place = t.place;
     *out = reply_numbers(t.number, place);
 }
@@ -92,13 +94,15 @@ pub extern "C" fn hfs_lookup(
     file: u32,
     fork: u8,
     start: u16,
+    work: &mut [u8],
     out: &mut [u32; 13],
     data: &mut [u8; 12],
 )
-    ensures numbers { λ _. ⌜ now (out .exit) ≡ lookupNumbers (lookedUp (now (image .entry)) (asked file fork start)) ⌝ }
-    ensures bytes { λ _. ⌜ now («data» .exit) ≡ dataBytes (now (image .entry)) (foundPart (lookedUp (now (image .entry)) (asked file fork start) .answer)) ⌝ }
+    ensures numbers { λ _. ⌜ now (out .exit) ≡ lookupNumbers (lookedUp (now (image .entry)) (asked file fork start) (length (now (work .entry)))) ⌝ }
+    ensures bytes { λ _. ⌜ now («data» .exit) ≡ dataBytes (now (image .entry)) (foundPart (lookedUp (now (image .entry)) (asked file fork start) (length (now (work .entry))) .answer)) ⌝ }
+    ensures leaves { λ _. ⌜ Leaves (now (image .entry)) (lookupReply (lookedUp (now (image .entry)) (asked file fork start) (length (now (work .entry))) .answer) .number) (now (work .entry)) (now (work .exit)) ⌝ }
 {
-    let found = extents::lookup(image, file, fork, start);
+    let found = extents::lookup(image, file, fork, start, work);
     let answer = found.answer;
     *out = lookup_numbers(found);
     *data = found_data(image, answer);

@@ -10,24 +10,30 @@ use lib.ListN.{length}
 use Rattle.btree.specs.declared.Answer.the-variants.{Found, Absent}
 use Rattle.btree.specs.declared.Lookup.{Lookup}
 use Rattle.btree.specs.declared.Place.{Place}
+use Rattle.btree.specs.declared.Verdict.{Verdict}
 use Rattle.btree.specs.Places.{imageStart, imageOffset}
 use Rattle.btree.specs.Lists.{_∈_, lastOr}
 use Rattle.btree.specs.Tree.{Rec, leavesAt}
 use Rattle.btree.specs.Header.{depthOf, viewOf}
+use Rattle.btree.specs.Walk.{fails}
+use Rattle.btree.specs.Numbers.{lookupReply}
 use Rattle.btree.specs.Search.{placeOf, answerOf, refused, descentOf, afterCheck, lookupOf}
 use Rattle.btree.proofs.Ordered.{if-zero, if-other}
 use Rattle.btree.proofs.Paths.{path-short, leaf-stands, leafList-once}
-use Rattle.btree.proofs.Answers.{FoundAt, found-leaf, found-record, record-found, absent-none, none-absent, absent-place}
+use Rattle.btree.proofs.Checked.{checked-else, of-few, check-says}
+use Rattle.btree.proofs.Soundness.{verdict-sound}
+use Rattle.btree.proofs.Answers.{answer-number, FoundAt, found-leaf, found-record, record-found, absent-none, none-absent, absent-place}
+use Rattle.btree.proofs.Work.{not-16, left-same, leaves}
 use Rattle.hfs.specs.Hfs.{hfs}
+use Rattle.hfs.proofs.Hfs.{fits}
 use Rattle.formats.specs.declared.key.Key.{Key}
 use Rattle.formats.specs.Key.{Lawful, decLawful, packed, keyAt}
-use Rattle.formats.specs.Format.{recordAt, view, dataAt}
-use Rattle.extents.specs.Reader.{Sound, verdict, leafList, searchPath, keysCompared, lookedUp}
+use Rattle.formats.specs.Format.{format, recordAt, view, dataAt}
+use Rattle.extents.specs.Reader.{Sound, verdict, needed, checked, CheckSays, Leaves, leafList, searchPath, keysCompared, lookedUp}
 use Rattle.extents.specs.Demands.{HasKey, SoundAnswer, LookupSays}
 use Rattle.formats.proofs.Order.{InRange, Bytes, key-range, packed-same}
 use Rattle.extents.proofs.Compared.{six-in-path, six-each}
 use Rattle.extents.proofs.Parts.{leaf-inside}
-use Rattle.extents.proofs.Soundness.{number-iff}
 
 module _ (img : List ℕ) (b : Bytes img) (k : Key) (r : InRange k) (s : Sound img) where
   -- a leaf record has the key where its packed key is that of the key
@@ -80,55 +86,95 @@ module _ (img : List ℕ) (b : Bytes img) (k : Key) (r : InRange k) (s : Sound i
           let (x, m, q, _) = found-record (view img) (s .tree) (s .totals) (packed k) p (sym a ∙ e) in
           rw q at (leaf-stands (view img) (s .tree) (s .totals) x m .whole)
 
-module _ (img : List ℕ) (b : Bytes img) (k : Key) (r : InRange k) where
-  of-lawful : Lawful (k .fork) → lookedUp img k ≡ afterCheck (view img) (packed k) (verdict img)
+module _ (img : List ℕ) (b : Bytes img) (k : Key) (r : InRange k) (lent : ℕ) where
+  of-lawful : Lawful (k .fork) → lookedUp img k lent ≡ afterCheck (view img) (packed k) (checked img lent)
   unfolding lookupOf
   of-lawful h = go (decLawful (k .fork))
     where
-      go : (d : Dec (Lawful (k .fork))) → lookupOf (view img) (verdict img) d (packed k) ≡ afterCheck (view img) (packed k) (verdict img)
+      go : (d : Dec (Lawful (k .fork))) → lookupOf (view img) (checked img lent) d (packed k) ≡ afterCheck (view img) (packed k) (checked img lent)
       go (yes p) = refl
       go (no n) = absurd (n h)
 
-  pub lookup-unlawful : (Lawful (k .fork) → ⊥) → lookedUp img k ≡ refused 11 imageStart
+  pub lookup-unlawful : (Lawful (k .fork) → ⊥) → lookedUp img k lent ≡ refused 11 imageStart
   unfolding lookupOf
   lookup-unlawful h = go (decLawful (k .fork))
     where
-      go : (d : Dec (Lawful (k .fork))) → lookupOf (view img) (verdict img) d (packed k) ≡ refused 11 imageStart
+      go : (d : Dec (Lawful (k .fork))) → lookupOf (view img) (checked img lent) d (packed k) ≡ refused 11 imageStart
       go (yes p) = absurd (h p)
       go (no n) = refl
 
   -- refused as the check refuses
-  pub lookup-refused : Lawful (k .fork) → (verdict img .number ≡ 0 → ⊥) → lookedUp img k ≡ refused (verdict img .number) (verdict img .place)
-  lookup-refused h z = of-lawful h ∙ if-other (verdict img .number) _ _ z
+  pub lookup-refused : Lawful (k .fork) → (checked img lent .number ≡ 0 → ⊥) → lookedUp img k lent ≡ refused (checked img lent .number) (checked img lent .place)
+  lookup-refused h z = of-lawful h ∙ if-other (checked img lent .number) _ _ z
 
-  pub lookup-answers : Lawful (k .fork) → verdict img .number ≡ 0 → lookedUp img k ≡ descentOf (view img) (packed k)
-  lookup-answers h z = of-lawful h ∙ if-zero (verdict img .number) _ _ z
+  pub lookup-answers : Lawful (k .fork) → checked img lent .number ≡ 0 → lookedUp img k lent ≡ descentOf (view img) (packed k)
+  lookup-answers h z = of-lawful h ∙ if-zero (checked img lent .number) _ _ z
 
-  pub lookup-says : LookupSays img k (lookedUp img k)
+  abbrev says : CheckSays img lent (checked img lent)
+  says = check-says hfs img format lent fits (checked img lent) refl
+
+  refused-as : Lawful (k .fork) → (t : Verdict) → checked img lent ≡ t → (t .number ≡ 0 → ⊥) → lookedUp img k lent ≡ refused (t .number) (t .place)
+  refused-as h t e z = lookup-refused h (λ q. z (sym (ap (λ (u : Verdict). u .number) e) ∙ q)) ∙ ap (λ (u : Verdict). refused (u .number) (u .place)) e
+
+  reply-number : (l : Lookup) → lookedUp img k lent ≡ l → lookupReply (lookedUp img k lent .answer) .number ≡ lookupReply (l .answer) .number
+  reply-number l e = ap (λ (x : Lookup). lookupReply (x .answer) .number) e
+
+  -- where enough bytes are lent the check's number is not 16, and neither is 11, 0 or 12
+  never-16 : needed img ≤ lent → lookupReply (lookedUp img k lent .answer) .number ≡ 16 → ⊥
+  never-16 h q = go (decLawful (k .fork)) (ℕ-discrete (checked img lent .number) 0)
+    where
+      go : Dec (Lawful (k .fork)) → Dec (checked img lent .number ≡ 0) → ⊥
+      go (no n) d = let e = reply-number (refused 11 imageStart) (lookup-unlawful n) in omega arith
+      go (yes p) (no z) =
+          let e = reply-number (refused (checked img lent .number) (checked img lent .place)) (lookup-refused p z) in
+          let t = says .onlyFew (sym e ∙ q) in
+          let f = t .fewer in
+          omega arith
+      go (yes p) (yes z) =
+          let e = reply-number (descentOf (view img) (packed k)) (lookup-answers p z) in
+          not-16 (lookupReply (answerOf (view img) (packed k)) .number) (answer-number (view img) (packed k)) (sym e ∙ q)
+
+  pub lookup-says : LookupSays img k lent (lookedUp img k lent)
   lookup-says =
       record {
-        ofSound = λ s h. sound-answer img b k r s (lookedUp img k) (lookup-answers h (number-iff img .1 s));
+        ofSound = λ s h e. sound-answer img b k r s (lookedUp img k lent) (lookup-answers h (says .sound .1 (s, e)));
         ofUnlawful = lookup-unlawful;
-        ofUnsound = λ h n. lookup-refused h (λ z. n (number-iff img .0 z));
+        ofFew = λ h t. refused-as h (fails 16 imageStart) (of-few hfs img format lent fits t) (λ z. omega arith);
+        ofUnsound = λ h t n. refused-as h (verdict img) (checked-else hfs img format lent t) (λ z. n (verdict-sound hfs fits img format z));
+        ofEnough = never-16;
       }
 
-  pub answered : (l : Lookup) → l ≡ lookedUp img k → (l ≡ lookedUp img k) × LookupSays img k l
-  answered l e = (e, rw e lookup-says)
-
   -- found is said of a sound image alone, at a record of a leaf
-  pub found-sound : (p : Place) → lookedUp img k .answer ≡ Found p → Sound img × FoundAt (view img) (packed k) p (leavesAt (view img) (view img .depth))
-  found-sound p e = go (decLawful (k .fork)) (ℕ-discrete (verdict img .number) 0)
+  pub found-sound : (p : Place) → lookedUp img k lent .answer ≡ Found p → Sound img × FoundAt (view img) (packed k) p (leavesAt (view img) (view img .depth))
+  found-sound p e = go (decLawful (k .fork)) (ℕ-discrete (checked img lent .number) 0)
     where
-      never : (a : ℕ) (o : Place) → lookedUp img k ≡ refused a o → ⊥
+      never : (a : ℕ) (o : Place) → lookedUp img k lent ≡ refused a o → ⊥
       never a o q = let w = ap (λ (l : Lookup). l .answer) q in let z : _≡_ {A = ℕ} 0 1 = cc in omega arith
 
-      go : Dec (Lawful (k .fork)) → Dec (verdict img .number ≡ 0) → Sound img × FoundAt (view img) (packed k) p (leavesAt (view img) (view img .depth))
+      go : Dec (Lawful (k .fork)) → Dec (checked img lent .number ≡ 0) → Sound img × FoundAt (view img) (packed k) p (leavesAt (view img) (view img .depth))
       go (no h) d = absurd (never 11 imageStart (lookup-unlawful h))
-      go (yes h) (no z) = absurd (never (verdict img .number) (verdict img .place) (lookup-refused h z))
+      go (yes h) (no z) = absurd (never (checked img lent .number) (checked img lent .place) (lookup-refused h z))
       go (yes h) (yes z) =
-          (number-iff img .0 z, found-leaf (view img) (view img .depth) (packed k) p (sym (ap (λ (l : Lookup). l .answer) (lookup-answers h z)) ∙ e))
+          (says .sound .0 z .0, found-leaf (view img) (view img .depth) (packed k) p (sym (ap (λ (l : Lookup). l .answer) (lookup-answers h z)) ∙ e))
 
-  pub found-inside : (p : Place) → lookedUp img k .answer ≡ Found p → dataAt (imageOffset hfs p) + 12 ≤ length img
+  pub found-inside : (p : Place) → lookedUp img k lent .answer ≡ Found p → dataAt (imageOffset hfs p) + 12 ≤ length img
   unfolding viewOf
   found-inside p e = let (s, f) = found-sound p e in
       subst (λ (o : Place). dataAt (imageOffset hfs o) + 12 ≤ length img) (f .starts) (leaf-inside img s (f .node) (f .number) (f .among) (f .inside))
+
+-- what a lookup promises
+module _ (img : List ℕ) (b : Bytes img) (k : Key) (r : InRange k) (entry exit : List ℕ) (l : Lookup) (is : l ≡ lookedUp img k (length entry)) where
+  abbrev Promised : Type 0
+  Promised = (l ≡ lookedUp img k (length entry)) × (LookupSays img k (length entry) l × Leaves img (lookupReply (l .answer) .number) entry exit)
+
+  promised : Leaves img (lookupReply (l .answer) .number) entry exit → Promised
+  promised w = (is, (rw is (lookup-says img b k r (length entry)), w))
+
+  -- a refusal, with this number
+  pub refuses : (number : ℕ) (place : Place) → l ≡ refused number place → Leaves img number entry exit → Promised
+  refuses number place e w = promised (rw e w)
+
+  -- what the descent says, after a sound verdict
+  pub descends : l ≡ descentOf (view img) (packed k) → Leaves img 0 entry exit → Promised
+  descends e w =
+      promised (rw e (leaves hfs img format _ entry exit (w .exactly ∙ left-same hfs img format _ entry (answer-number (view img) (packed k)))))

@@ -1,5 +1,4 @@
 pub mod Soundness
-pub mod Framing
 pub mod Levels
 pub mod Pointers
 pub mod Parts

@@ -29,13 +29,13 @@ module _ (img : List ℕ) (k : Key) where
   unfolding salvaged
   salvage-unlawful n = cond-no (decLawful (k .fork)) _ _ n
 
-  pub salvage-long : Lawful (k .fork) → 3072000 < length img → salvaged img k ≡ Refused 1 imageStart
+  pub salvage-long : Lawful (k .fork) → 33554432 < length img → salvaged img k ≡ Refused 1 imageStart
   unfolding salvaged
-  salvage-long l h = cond-yes (decLawful (k .fork)) _ _ l ∙ cond-no (decLe (length img) 3072000) _ _ (λ z. omega arith)
+  salvage-long l h = cond-yes (decLawful (k .fork)) _ _ l ∙ cond-no (decLe (length img) 33554432) _ _ (λ z. omega arith)
 
   pub salvage-searched : Searched img k → salvaged img k ≡ seenFrom img (packed k) 1 (length img / 512 - 1)
   unfolding salvaged
-  salvage-searched s = cond-yes (decLawful (k .fork)) _ _ (s .lawful) ∙ cond-yes (decLe (length img) 3072000) _ _ (s .few)
+  salvage-searched s = cond-yes (decLawful (k .fork)) _ _ (s .lawful) ∙ cond-yes (decLe (length img) 33554432) _ _ (s .few)
 
   -- a match, by the packed key
   pub match-same : Bytes img → InRange k → (n i : ℕ) → Match img k n i ↔ ((1 ≤ n) × (n < length img / 512) × Has img (packed k) n i)
@@ -61,9 +61,9 @@ module _ (img : List ℕ) (k : Key) where
 
   -- what is seen is a match
   pub seen-match : (r : Salvage) → SalvageSays img k r → (p : Place) → r ≡ Seen p → (n : ℕ) × (i : ℕ) × Match img k n i × (recordPlace (view img) n i ≡ p)
-  seen-match r s p e = go (decLawful (k .fork)) (decLe (length img) 3072000)
+  seen-match r s p e = go (decLawful (k .fork)) (decLe (length img) 33554432)
     where
-      go : Dec (Lawful (k .fork)) → Dec (length img ≤ 3072000) → (n : ℕ) × (i : ℕ) × Match img k n i × (recordPlace (view img) n i ≡ p)
+      go : Dec (Lawful (k .fork)) → Dec (length img ≤ 33554432) → (n : ℕ) × (i : ℕ) × Match img k n i × (recordPlace (view img) n i ≡ p)
       go (no n) q = let x = s .unlawful n in absurd (let z : _≡_ {A = ℕ} 0 1 = cc in omega arith)
       go (yes l) (no q) = let x = s .long l (omega arith) in absurd (let z : _≡_ {A = ℕ} 0 1 = cc in omega arith)
       go (yes l) (yes q) = let (n, i, f, w) = s .seen (record { lawful = l; few = q }) p .0 e in (n, i, f .here, w)

@@ -15,11 +15,12 @@ use Rattle.btree.specs.Places.{imageStart}
 use Rattle.btree.specs.Lists.{_∈_, lastOr}
 use Rattle.btree.specs.Tree.{Rec}
 use Rattle.btree.specs.Header.{depthOf}
+use Rattle.btree.specs.Numbers.{lookupReply}
 use Rattle.btree.specs.Search.{placeOf, pathOut, refused, halvedIn}
 use Rattle.formats.specs.declared.key.Key.{Key}
 use Rattle.formats.specs.Key.{Lawful, packed, compared, keyAt}
 use Rattle.formats.specs.Format.{recordAt, view}
-use Rattle.extents.specs.Reader.{Sound, verdict, leafList, searchPath, keysCompared, Part}
+use Rattle.extents.specs.Reader.{Sound, verdict, needed, TooFew, leafList, searchPath, keysCompared, Part}
 
 -- "A record has the asked key when the two keys compare as 0."
 abbrev pub HasKey : List ℕ → Key → Rec → Type 0
@@ -47,11 +48,15 @@ pub record SoundAnswer (img : List ℕ) (k : Key) (r : Lookup) : Type 0 where
   pub six : (n : ℕ) → n ∈ searchPath img k → halvedIn (view img) (packed k) n .compared ≤ 6
   pub few : r .compared ≤ 6 * length (searchPath img k)
 
--- what a lookup says of any image and any key; "Of anything else it says neither: it refuses."
-pub record LookupSays (img : List ℕ) (k : Key) (r : Lookup) : Type 0 where
-  pub ofSound : Sound img → Lawful (k .fork) → SoundAnswer img k r
+-- what a lookup says of any image and any key where so many bytes are lent; "Of anything else it says neither: it refuses."
+pub record LookupSays (img : List ℕ) (k : Key) (lent : ℕ) (r : Lookup) : Type 0 where
+  pub ofSound : Sound img → Lawful (k .fork) → needed img ≤ lent → SoundAnswer img k r
   pub ofUnlawful : (Lawful (k .fork) → ⊥) → r ≡ refused 11 imageStart
-  pub ofUnsound : Lawful (k .fork) → (Sound img → ⊥) → r ≡ refused (verdict img .number) (verdict img .place)
+  -- W-206: "Fewer than the nodes need: 16, tested after 11, 15 and 1"
+  pub ofFew : Lawful (k .fork) → TooFew img lent → r ≡ refused 16 imageStart
+  pub ofUnsound : Lawful (k .fork) → (TooFew img lent → ⊥) → (Sound img → ⊥) → r ≡ refused (verdict img .number) (verdict img .place)
+  -- "no such check or lookup answers 16"
+  pub ofEnough : needed img ≤ lent → lookupReply (r .answer) .number ≡ 16 → ⊥
 
 -- the slice r is this part of the image, and lies where it does
 abbrev pub PartOf : RefT (List ℕ) → RefT (List ℕ) → Part → Type 0

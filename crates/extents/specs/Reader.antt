@@ -17,6 +17,7 @@ use Rattle.btree.specs.Tree.{Rec}
 use Rattle.btree.specs.Search as search
 use Rattle.btree.specs.Image as image
 use Rattle.btree.specs.Tests as tests
+use Rattle.btree.specs.Work as work
 use Rattle.hfs.specs.Hfs.{hfs}
 use Rattle.formats.specs.declared.key.Key.{Key}
 use Rattle.formats.specs.Key.{packed, decLawful}
@@ -30,6 +31,25 @@ Sound img = image.Sound hfs img format
 abbrev pub verdict : List ℕ → Verdict
 verdict img = tests.verdict hfs img format
 
+-- W-206: "one bit a node": the working bytes that the nodes of an image need
+abbrev pub needed : List ℕ → ℕ
+needed img = work.needed hfs img
+
+-- "Fewer than the nodes need", of an image whose length is right
+abbrev pub TooFew : List ℕ → ℕ → Type 0
+TooFew img lent = work.TooFew hfs img lent
+
+-- what a check answers where so many bytes are lent: 16 where they are too few, and else the verdict
+abbrev pub checked : List ℕ → ℕ → Verdict
+checked img lent = work.checked hfs img format lent
+
+abbrev pub CheckSays : List ℕ → ℕ → Verdict → Type 0
+CheckSays img lent r = work.CheckSays hfs img format lent r
+
+-- what a call whose answer has this number leaves in the bytes lent to it
+abbrev pub Leaves : List ℕ → ℕ → List ℕ → List ℕ → Type 0
+Leaves img number entry exit = work.Leaves hfs img format number entry exit
+
 abbrev pub leafList : List ℕ → List Rec
 leafList img = search.leafList (view img)
 
@@ -40,8 +60,8 @@ searchPath img k = search.pathOf (view img) (packed k)
 abbrev pub keysCompared : List ℕ → Key → ℕ
 keysCompared img k = search.comparedOf (view img) (packed k)
 
-abbrev pub lookedUp : List ℕ → Key → Lookup
-lookedUp img k = search.lookupOf (view img) (verdict img) (decLawful (k .fork)) (packed k)
+abbrev pub lookedUp : List ℕ → Key → ℕ → Lookup
+lookedUp img k lent = search.lookupOf (view img) (checked img lent) (decLawful (k .fork)) (packed k)
 
 -- a part of the image: where it starts and how many bytes it has
 pub record Part : Type 0 where
@@ -61,7 +81,8 @@ foundPart (answer.Found p) = dataPart p
 foundPart (answer.Absent n) = emptyPart
 foundPart (answer.Refused number place) = emptyPart
 
--- "Salvage tests 11, then length: more than 3,072,000 bytes is 1; any other length is taken, and a broken last node is ignored. From node 1 up"
+-- "Salvage tests 11, then length: more than 3,072,000 bytes is 1; any other length is taken, and a broken last node is ignored. From node 1 up";
+-- W-206: 33,554,432 bytes
 unfoldable pub salvaged : List ℕ → Key → Salvage
 salvaged img k =
     cond (decLawful (k .fork))

@@ -33,13 +33,13 @@ pub record Match (img : List ℕ) (k : Key) (n i : ℕ) : Type 0 where
 -- "Salvage tests 11, then length": the key is lawful and the image not too long
 pub record Searched (img : List ℕ) (k : Key) : Type 0 where
   pub lawful : Lawful (k .fork)
-  pub few : length img ≤ 3072000
+  pub few : length img ≤ 33554432
 
 pub record SalvageSays (img : List ℕ) (k : Key) (r : Salvage) : Type 0 where
   -- 11: "asked key has a fork byte other than 00 or FF"
   pub unlawful : (Lawful (k .fork) → ⊥) → r ≡ Refused 11 imageStart
-  -- "more than 3,072,000 bytes is 1; any other length is taken"
-  pub long : Lawful (k .fork) → 3072000 < length img → r ≡ Refused 1 imageStart
+  -- "more than 3,072,000 bytes is 1; any other length is taken", W-206: 33,554,432
+  pub long : Lawful (k .fork) → 33554432 < length img → r ≡ Refused 1 imageStart
   -- seen exactly when a match comes first; W-208: with "the record's start"
   pub seen : Searched img k → (p : Place) → (r ≡ Seen p) ↔ ((n : ℕ) × (i : ℕ) × First (Match img k) n i × (recordPlace (view img) n i ≡ p))
   pub notSeen : Searched img k → (r ≡ NotSeen) ↔ ((n i : ℕ) → Match img k n i → ⊥)

@@ -1,9 +1,10 @@
 // The reader of the extents overflow file of an HFS volume. Any bytes are an image, and nobody has to have checked it first.
 ghost use mathlib.Core.Path.{_≡_};
-ghost use mathlib.Core.Logic.{_↔_};
+ghost use lib.ListN.{length};
+ghost use Rattle.btree.specs.Numbers.{lookupReply};
 ghost use Rattle.btree.specs.Search.{refused};
 ghost use Rattle.formats.specs.Key.{asked};
-ghost use Rattle.extents.specs.Reader.{Sound, verdict, lookedUp, foundPart, salvaged, seenPart};
+ghost use Rattle.extents.specs.Reader.{checked, CheckSays, Leaves, lookedUp, foundPart, salvaged, seenPart};
 ghost use Rattle.extents.specs.Demands.{LookupSays, PartOf};
 ghost use Rattle.extents.specs.Salvage.{SalvageSays};
 use btree::Answer;
@@ -16,47 +17,17 @@ use btree::at_node;
 use formats::key::is_lawful;
 use formats::key::pack;
 use formats::records::data_of;
-use hfs::header::header_right;
-use hfs::header::length_right;
 use image::part::no_part;
-use image::visited::Visited;
-use map::bits::map_tests;
-use map::chain::map_chain;
 use search::descent::descend;
 use search::scan::first_seen;
-use walk::tree_tests;
 
-// The first fault in the order of tests, number and place; 0 at node 0, offset 0 for a sound image.
-pub fn check(image: &[u8]) -> Verdict
-    ensures equal { λ r. ⌜ r ≡ verdict (now (image .entry)) ⌝ }
-    ensures sound { λ r. ⌜ (r .number ≡ 0) ↔ Sound (now (image .entry)) ⌝ }
+// The first fault in the order of tests, number and place; 16 where too few bytes are lent; 0 at node 0, offset 0 for a sound image.
+pub fn check(image: &[u8], work: &mut [u8]) -> Verdict
+    ensures equal { λ r. ⌜ r ≡ checked (now (image .entry)) (length (now (work .entry))) ⌝ }
+    ensures says { λ r. ⌜ CheckSays (now (image .entry)) (length (now (work .entry))) r ⌝ }
+    ensures leaves { λ r. ⌜ Leaves (now (image .entry)) (r .number) (now (work .entry)) (now (work .exit)) ⌝ }
 {
-    if !length_right(image) {
-        return at_node(1, 0);
-    }
-    if !header_right(image, 7) {
-        return at_node(2, 0);
-    }
-    let chain = map_chain(image);
-    if chain.number != 0 {
-        let place = chain.place;
-        return Verdict {
-            number: chain.number,
-            place,
-        };
-    }
-    let mapped = chain.visited;
-    let tree = tree_tests(image, mapped, chain.nodes);
-    if tree.number != 0 {
-        let place = tree.place;
-        return Verdict {
-            number: tree.number,
-            place,
-        };
-    }
-    let bits = tree.visited;
-    let reached = Visited { bits };
-    map_tests(image, reached, tree.nodes)
+    checks::check(image, work)
 }
 
 fn refusal(t: Verdict) -> Lookup
@@ -76,14 +47,15 @@ fn refusal(t: Verdict) -> Lookup
 }
 
 // What stands under a key: first the fork byte is judged, then the whole image, and only then the tree is searched.
-pub fn lookup(image: &[u8], file: u32, fork: u8, start: u16) -> Lookup
-    ensures equal { λ r. ⌜ r ≡ lookedUp (now (image .entry)) (asked file fork start) ⌝ }
-    ensures says { λ r. ⌜ LookupSays (now (image .entry)) (asked file fork start) r ⌝ }
+pub fn lookup(image: &[u8], file: u32, fork: u8, start: u16, work: &mut [u8]) -> Lookup
+    ensures equal { λ r. ⌜ r ≡ lookedUp (now (image .entry)) (asked file fork start) (length (now (work .entry))) ⌝ }
+    ensures says { λ r. ⌜ LookupSays (now (image .entry)) (asked file fork start) (length (now (work .entry))) r ⌝ }
+    ensures leaves { λ r. ⌜ Leaves (now (image .entry)) (lookupReply (r .answer) .number) (now (work .entry)) (now (work .exit)) ⌝ }
 {
     if !is_lawful(fork as u32) {
         return refusal(at_node(11, 0));
     }
-    let t = check(image);
+    let t = check(image, work);
     if t.number != 0 {
         return refusal(t);
     }
@@ -91,10 +63,17 @@ pub fn lookup(image: &[u8], file: u32, fork: u8, start: u16) -> Lookup
 }
 
 // The 12 data bytes of the record that a lookup finds, or else the empty part at the image's start.
-pub fn lookup_part<'a>(image: &'a [u8], file: u32, fork: u8, start: u16) -> &'a [u8]
-    ensures { λ r. ⌜ PartOf (image .entry) r (foundPart (lookedUp (now (image .entry)) (asked file fork start) .answer)) ⌝ }
+pub fn lookup_part<'a>(
+    image: &'a [u8],
+    file: u32,
+    fork: u8,
+    start: u16,
+    work: &mut [u8],
+) -> &'a [u8]
+    ensures part { λ r. ⌜ PartOf (image .entry) r (foundPart (lookedUp (now (image .entry)) (asked file fork start) (length (now (work .entry))) .answer)) ⌝ }
+    ensures leaves { λ _. ⌜ Leaves (now (image .entry)) (lookupReply (lookedUp (now (image .entry)) (asked file fork start) (length (now (work .entry))) .answer) .number) (now (work .entry)) (now (work .exit)) ⌝ }
 {
-    let found = lookup(image, file, fork, start);
+    let found = lookup(image, file, fork, start, work);
     let answer = found.answer;
     match answer {
         Answer::Found(place) => data_of(image, place),
@@ -111,7 +90,7 @@ pub fn salvage(image: &[u8], file: u32, fork: u8, start: u16) -> Salvage
     if !is_lawful(fork as u32) {
         return Salvage::Refused(11, Place { node: 0, offset: 0 });
     }
-    if image.len() > 3_072_000 {
+    if image.len() > 33_554_432 {
         return Salvage::Refused(1, Place { node: 0, offset: 0 });
     }
     first_seen(image, pack(file, fork, start))

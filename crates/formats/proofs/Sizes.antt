@@ -45,6 +45,15 @@ pub record-next : (img : List ℕ) (n i : ℕ) → recordAt img n (i + 1) ≡ re
 unfolding recordOffset
 record-next img n i = let e = suc-mul i (recordSize (kindOf img n)) in rw (add-one i) (omega arith)
 
+-- a record that a node has room for lies in it
+pub offset-inside : (img : List ℕ) (n i : ℕ) → i < maxRecords (kindOf img n) → recordOffset img n i + 12 ≤ 512
+unfolding recordOffset
+offset-inside img n i h = go (ℕ-discrete (kindOf img n) leafKind)
+  where
+    go : Dec (kindOf img n ≡ leafKind) → 14 + i * recordSize (kindOf img n) + 12 ≤ 512
+    go (yes e) = let m = max-leaf (kindOf img n) e in rw (size-leaf (kindOf img n) e) (omega arith)
+    go (no e) = let m = max-index (kindOf img n) e in rw (size-index (kindOf img n) e) (omega arith)
+
 -- two records of a node that start at one byte are one
 pub offset-once : (img : List ℕ) (n i j : ℕ) → recordOffset img n i ≡ recordOffset img n j → i ≡ j
 unfolding recordOffset

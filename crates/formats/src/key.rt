@@ -1,12 +1,16 @@
 // The key of an extents record.
 ghost use mathlib.Core.Path.{_≡_};
-ghost use Prim.Native.Nat.{_<_};
+ghost use Prim.Native.Nat.{_+_, _<_, _≤_};
 ghost use lib.IntN.{pos};
+ghost use lib.ListN.{length};
 ghost use Rattle.btree.specs.Decide.{says};
 ghost use Rattle.formats.specs.Key.{decLawful, packed, ranked, compared, keyAt, asked};
 use image::bytes::be16;
 use image::bytes::be32;
 use image::bytes::byte_at;
+use image::within::be16_in;
+use image::within::be32_in;
+use image::within::byte_in;
 
 // What a record is found by.
 pub struct Key {
@@ -58,11 +62,28 @@ pub fn pack(file: u32, fork: u8, start: u16) -> u64
     (file as u64) * 16_777_216 + (fork as u64) * 65_536 + (start as u64)
 }
 
-// The packed key that stands at a byte of the image.
+// The packed key that stands at a byte of the image, which has it whole.
+pub fn key_in(image: &[u8], at: usize) -> u64
+    requires { ⌜ at + 8 ≤ length (now image) ⌝ }
+    ensures { λ r. ⌜ (r ≡ packed (keyAt (now (image .entry)) at)) × (r < 72057594037927936) ⌝ }
+{
+    let file = be32_in(image, at + 2) as u64;
+    let fork = byte_in(image, at + 1) as u64;
+    let start = be16_in(image, at + 6) as u64;
+    file * 16_777_216 + fork * 65_536 + start
+}
+
+// The packed key that stands at a byte of the image: one test for all its bytes.
 pub fn key_at(image: &[u8], at: usize) -> u64
     requires { ⌜ at < 100000000000000 ⌝ }
     ensures { λ r. ⌜ (r ≡ packed (keyAt (now (image .entry)) at)) × (r < 72057594037927936) ⌝ }
 {
+    if image.len() >= 8 {
+        if at <= image.len() - 8 {
+            return key_in(image, at);
+        }
+    }
+    // The image ends before the last byte.
     let file = be32(image, at + 2) as u64;
     let fork = byte_at(image, at + 1) as u64;
     let start = be16(image, at + 6) as u64;

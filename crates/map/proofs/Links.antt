@@ -7,8 +7,9 @@ use mathlib.Core.List.{List, [], _∷_, reverseAux, List·Memᴰ·head, List·Me
 use Prim.Native.Nat.{ℕ, suc, _+_, _-_, _*_, _≤_, _<_}
 use native.Mathlib.Decide.{decLe, decLt}
 use native.Mathlib.Omega.{arith}
-use lib.ListN.{length, length-reverseAux}
-use Rattle.image.specs.Set.{member, Marked}
+use lib.ListN.{length, replicate, length-replicate, length-reverseAux}
+use Rattle.image.specs.Set.{member, withBit}
+use Rattle.image.proofs.Laws.{mark-length}
 use Rattle.btree.specs.Places.{nodePlace}
 use Rattle.btree.specs.Lists.{_∈_, along}
 use Rattle.btree.specs.Decide.{says, decMem}
@@ -36,6 +37,7 @@ pub record Passed (img bits : List ℕ) (nodes last left : ℕ) : Type 0 where
   pub count : nodes ≡ suc (length met)
   pub used : left + length met ≡ totalOf img
   pub marks : Marks bits (0 ∷ met)
+  pub enough : totalOf img ≤ 8 * length bits
 
 -- the state, and the link from `last` to a node n
 pub record Linked (img bits : List ℕ) (nodes last left n : ℕ) : Type 0 where
@@ -44,9 +46,18 @@ pub record Linked (img bits : List ℕ) (nodes last left n : ℕ) : Type 0 where
   pub link : n ≡ forwardOf hfs img last
   pub some : n ≡ 0 → ⊥
 
-pub passed-none : (img none bits : List ℕ) → ((m : ℕ) → member none m ≡ false) → Marked none 0 bits → Passed img bits 1 0 (totalOf img)
-passed-none img none bits h w =
-    record { met = []; verdict = refl; split = refl; count = refl; used = omega arith; marks = marks-more none bits [] 0 (omega arith) (marks-none none h) w }
+pub passed-none : (img : List ℕ) (k : ℕ) → 0 < totalOf img → totalOf img ≤ 8 * k → Passed img (withBit (replicate k 0) 0) 1 0 (totalOf img)
+passed-none img k p h =
+    let e : length {A = ℕ} (replicate k 0) ≡ k = length-replicate {A = ℕ} k 0 in
+    record {
+      met = [];
+      verdict = refl;
+      split = refl;
+      count = refl;
+      used = omega arith;
+      marks = marks-more (replicate k 0) [] 0 (omega arith) (marks-none k);
+      enough = let m = mark-length (replicate k 0) 0 in omega arith;
+    }
 
 module _ {img bits : List ℕ} {nodes last left n : ℕ} (k : Linked img bits nodes last left n) where
   abbrev met : List ℕ
@@ -93,15 +104,16 @@ module _ {img bits : List ℕ} {nodes last left n : ℕ} (k : Linked img bits no
           here ∙ unless-true (says (decLt n (totalOf img))) _ _ in-range
           ∙ unless-true (says (Dec·not (decMem n met))) _ _ is-new ∙ unless-true (says (decMapNode hfs img n)) _ _ h
 
-      pub passed-more : {after : List ℕ} → says (decMapNode hfs img n) ≡ true → n < 6000 → Marked bits n after → Passed img after (nodes + 1) n (left - 1)
-      passed-more {after} h l w =
+      pub passed-more : says (decMapNode hfs img n) ≡ true → Passed img (withBit bits n) (nodes + 1) n (left - 1)
+      passed-more h =
           record {
             met = n ∷ met;
             verdict = onward h;
             split = k .passed .split ∙ ap (reverseAux met) next;
             count = let c = k .passed .count in omega arith;
             used = let u = k .passed .used in let m = k .more in omega arith;
-            marks = marks-same after (n ∷ 0 ∷ met) (0 ∷ n ∷ met) (λ m. swap n 0) (λ m. swap 0 n) (marks-more bits after (0 ∷ met) n l (k .passed .marks) w);
+            marks = marks-same (withBit bits n) (n ∷ 0 ∷ met) (0 ∷ n ∷ met) (λ m. swap n 0) (λ m. swap 0 n) (marks-more bits (0 ∷ met) n (let w = k .passed .enough in omega arith) (k .passed .marks));
+            enough = let w = k .passed .enough in let m = mark-length bits n in omega arith;
           }
         where
           swap : {m : ℕ} (x y : ℕ) → m ∈ x ∷ y ∷ met → m ∈ y ∷ x ∷ met
@@ -143,5 +155,5 @@ module _ {img bits : List ℕ} {nodes last left : ℕ} (p : Passed img bits node
       (λ m w. ⊎-elim (λ e. List·Memᴰ·head e) (λ z. ⊎-elim (λ y. List·Memᴰ·tail y) (λ y. absurd (List·Memᴰ·not-nil y)) (back-cases (p .met) [] z)) (List·Memᴰ·cases-cons w))
       (p .marks))
 
-pub chain-faulty : {img : List ℕ} {r : Chain} {node : ℕ} → (r .number ≡ 3) × (r .place ≡ nodePlace node) → chainFrom hfs img [] 0 (mapNodes hfs img) ≡ fails 3 (nodePlace node) → ChainOf img r
+pub chain-faulty : {img bits : List ℕ} {r : Chain} {node : ℕ} → (r .number ≡ 3) × (r .place ≡ nodePlace node) → chainFrom hfs img [] 0 (mapNodes hfs img) ≡ fails 3 (nodePlace node) → ChainOf img bits r
 chain-faulty (n, p) e = record { verdict = rw (n, p) (sym e); marks = λ z. absurd (omega arith); count = λ z. absurd (omega arith) }

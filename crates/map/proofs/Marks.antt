@@ -4,12 +4,13 @@ use mathlib.Core.Path.{_≡_, refl, sym, _∙_}
 use mathlib.Core.Logic.{⊎-elim}
 use mathlib.Core.Bool.{Bool, true, false}
 use mathlib.Core.List.{List, [], _∷_, List·Memᴰ·head, List·Memᴰ·tail, List·Memᴰ·not-nil, List·Memᴰ·cases-cons}
-use Prim.Native.Nat.{ℕ, _<_}
+use Prim.Native.Nat.{ℕ, _/_, _<_}
 use native.Mathlib.Decide.{ℕ-discrete}
 use borrow.Author.Tests.{eq-eqb, ne-eqb}
+use lib.ListN.{length, replicate}
 use Rattle.image.specs.Bit.{bitOf}
-use Rattle.image.specs.Set.{member, Marked}
-use Rattle.image.proofs.Laws.{member-bit, nonmember-bit, marks-within}
+use Rattle.image.specs.Set.{member, withBit}
+use Rattle.image.proofs.Laws.{member-bit, nonmember-bit, member-mark, bit-clear}
 use Rattle.btree.specs.Lists.{_∈_}
 use Rattle.btree.specs.Decide.{says, decMem}
 use Rattle.btree.specs.Tests.{bitFor}
@@ -24,18 +25,18 @@ same-bit a b m e = go (member b m) refl
     go true q = member-bit a m (e ∙ q) ∙ sym (member-bit b m q)
     go false q = nonmember-bit a m (e ∙ q) ∙ sym (nonmember-bit b m q)
 
--- no bit is set where there is no member
-pub marks-none : (bits : List ℕ) → ((m : ℕ) → member bits m ≡ false) → Marks bits []
-marks-none bits h m = nonmember-bit bits m (h m) ∙ sym (bit-not [] m List·Memᴰ·not-nil)
+-- no bit is set in cleared bytes
+pub marks-none : (k : ℕ) → Marks (replicate k 0) []
+marks-none k m = bit-clear k m ∙ sym (bit-not [] m List·Memᴰ·not-nil)
 
 -- to mark a node adds it
-pub marks-more : (bits after ns : List ℕ) (n : ℕ) → n < 6000 → Marks bits ns → Marked bits n after → Marks after (n ∷ ns)
-marks-more bits after ns n h k w m = go (ℕ-discrete m n)
+pub marks-more : (bits ns : List ℕ) (n : ℕ) → n / 8 < length bits → Marks bits ns → Marks (withBit bits n) (n ∷ ns)
+marks-more bits ns n h k m = go (ℕ-discrete m n)
   where
-    go : Dec (m ≡ n) → bitOf after m ≡ bitFor (n ∷ ns) m
-    go (yes e) = member-bit after m (w .asSet m ∙ rw (marks-within n m h, eq-eqb m n e)) ∙ sym (bit-for (n ∷ ns) m (List·Memᴰ·head e))
+    go : Dec (m ≡ n) → bitOf (withBit bits n) m ≡ bitFor (n ∷ ns) m
+    go (yes e) = member-bit (withBit bits n) m (member-mark bits n m h ∙ rw (eq-eqb m n e)) ∙ sym (bit-for (n ∷ ns) m (List·Memᴰ·head e))
     go (no ne) =
-        same-bit after bits m (w .asSet m ∙ rw (marks-within n m h, ne-eqb m n ne))
+        same-bit (withBit bits n) bits m (member-mark bits n m h ∙ rw (ne-eqb m n ne))
         ∙ k m ∙ bit-same ns (n ∷ ns) m List·Memᴰ·tail (λ x. ⊎-elim (λ e. absurd (ne e)) (λ y. y) (List·Memᴰ·cases-cons x))
 
 -- the order of the nodes does not matter

@@ -44,7 +44,7 @@ module _ (img bits : List ℕ) where
   no-wrong-bit e = rw e
 
 module _ (img : List ℕ) (framed : Framed img) where
-  pub few-nodes : totalOf img ≤ 6000
+  pub few-nodes : totalOf img ≤ 65536
   few-nodes = let l = framed .lengths .few in let t = framed .totalNodes in omega arith
 
   module _ (bits : List ℕ) where

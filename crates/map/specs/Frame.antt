@@ -2,7 +2,7 @@
 -- Assumes nothing.
 use mathlib.Core.Path.{_≡_}
 use mathlib.Core.List.{List, [], _∷_}
-use Prim.Native.Nat.{ℕ, suc, _/_}
+use Prim.Native.Nat.{ℕ, suc, _*_, _/_, _≤_, _<_}
 use lib.ListN.{length}
 use Rattle.image.specs.Bit.{bitOf}
 use Rattle.btree.specs.Header.{totalOf, mapNodes}
@@ -16,10 +16,16 @@ use Rattle.hfs.specs.Hfs.{hfs}
 abbrev pub Marks : List ℕ → List ℕ → Type 0
 Marks bits nodes = (n : ℕ) → bitOf bits n ≡ bitFor nodes n
 
--- what the walk along the chain gives
-pub record ChainOf (img : List ℕ) (r : Chain) : Type 0 where
+-- the bytes have a bit for each node
+pub record Room (img bits : List ℕ) : Type 0 where
+  pub some : 0 < totalOf img
+  pub few : totalOf img ≤ 65536
+  pub enough : totalOf img ≤ 8 * length bits
+
+-- what the walk along the chain gives, and the bits that it leaves
+pub record ChainOf (img bits : List ℕ) (r : Chain) : Type 0 where
   pub verdict : fails (r .number) (r .place) ≡ chainFrom hfs img [] 0 (mapNodes hfs img)
-  pub marks : r .number ≡ 0 → Marks (r .visited .bits) (0 ∷ mapNodes hfs img)
+  pub marks : r .number ≡ 0 → Marks bits (0 ∷ mapNodes hfs img)
   pub count : r .number ≡ 0 → r .nodes ≡ suc (length (mapNodes hfs img))
 
 -- an image whose length, total and map chain are right

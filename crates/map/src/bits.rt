@@ -15,18 +15,17 @@ use btree::at_node;
 use hfs::node::forward_of;
 use image::bytes::be32;
 use image::bytes::byte_at;
-use image::visited::Visited;
 
 // The lowest wrong bit in one map record, whose first byte is the map's byte `first`: bytes outside, bits inside.
-fn wrong_in(map: &[u8], visited: Visited, first: usize) -> Hit
-    requires { ⌜ (length (now map) ≤ 512) × (first < 4000000) ⌝ }
-    ensures { λ r. ⌜ r ≡ hitOf (lowestWrong (bitOf (visited .bits)) (8 * first) (now (map .entry))) ⌝ }
+fn wrong_in(map: &[u8], bits: &[u8], first: usize) -> Hit
+    requires { ⌜ (length (now map) ≤ 512) × (first < 40000000) ⌝ }
+    ensures { λ r. ⌜ r ≡ hitOf (lowestWrong (bitOf (now (bits .entry))) (8 * first) (now (map .entry))) ⌝ }
 {
     let mut found = Hit::Nowhere;
     let mut i: usize = 0;
     'bytes: while i < map.len() {
         let x = map[i] as u32;
-        let y = byte_at(&visited.bits, first + i);
+        let y = byte_at(bits, first + i);
         if x != y {
             let mut j: u32 = 0;
             'bits: while j < 8 {
@@ -43,11 +42,11 @@ fn wrong_in(map: &[u8], visited: Visited, first: usize) -> Hit
 }
 
 // Test 9, in the header's map record and then along the chain: the byte in its node that has the bit.
-fn bit_test(image: &[u8], visited: Visited) -> Verdict
+fn bit_test(image: &[u8], bits: &[u8]) -> Verdict
     requires { ⌜ Framed (now image) ⌝ }
-    ensures { λ r. ⌜ r ≡ bitTest hfs (now (image .entry)) (bitOf (visited .bits)) ⌝ }
+    ensures { λ r. ⌜ r ≡ bitTest hfs (now (image .entry)) (bitOf (now (bits .entry))) ⌝ }
 {
-    if let Hit::At(bit) = wrong_in(&image[248..504], visited, 0) {
+    if let Hit::At(bit) = wrong_in(&image[248..504], bits, 0) {
         return at_byte(9, 0, 248 + bit / 8);
     }
     let mut first: usize = 256;
@@ -58,7 +57,7 @@ fn bit_test(image: &[u8], visited: Visited) -> Verdict
             break;
         }
         let at = (node as usize) * 512 + 14;
-        if let Hit::At(bit) = wrong_in(&image[at..at + 494], visited, first) {
+        if let Hit::At(bit) = wrong_in(&image[at..at + 494], bits, first) {
             return at_byte(9, node, 14 + (bit / 8 - (first as u32)));
         }
         first += 494;
@@ -68,12 +67,12 @@ fn bit_test(image: &[u8], visited: Visited) -> Verdict
     at_node(0, 0)
 }
 
-// Tests 9 and 10, where `visited` has the nodes reached from the header, and there are so many.
-pub fn map_tests(image: &[u8], visited: Visited, nodes: u32) -> Verdict
+// Tests 9 and 10, where the bits set are those of the nodes reached from the header, and there are so many.
+pub fn map_tests(image: &[u8], bits: &[u8], nodes: u32) -> Verdict
     requires { ⌜ Framed (now image) ⌝ }
-    ensures { λ r. ⌜ ((ns : List ℕ) → Marks (visited .bits) ns → nodes ≡ length ns → r ≡ mapTests hfs (now (image .entry)) ns) ⌝ }
+    ensures { λ r. ⌜ ((ns : List ℕ) → Marks (now (bits .entry)) ns → nodes ≡ length ns → r ≡ mapTests hfs (now (image .entry)) ns) ⌝ }
 {
-    let t = bit_test(image, visited);
+    let t = bit_test(image, bits);
     if t.number != 0 {
         return t;
     }

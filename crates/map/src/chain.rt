@@ -1,25 +1,21 @@
 // Test 3: the map chain.
 ghost use mathlib.Core.Path.{_≡_};
-ghost use Prim.Native.Nat.{_≤_};
 ghost use Rattle.btree.specs.Places.{nodePlace};
 ghost use Rattle.btree.specs.Decide.{says};
-ghost use Rattle.btree.specs.Header.{totalOf};
 ghost use Rattle.btree.specs.Tests.{decMapNode};
 ghost use Rattle.hfs.specs.Hfs.{hfs};
-ghost use Rattle.map.specs.Frame.{ChainOf};
+ghost use Rattle.map.specs.Frame.{Room, ChainOf};
 use btree::Place;
 use hfs::header::descriptor_right;
 use hfs::node::forward_of;
 use hfs::node::word_from_end;
 use image::bytes::be32;
-use image::visited::Visited;
+use image::visited::clear;
 use image::visited::has;
 use image::visited::mark;
-use image::visited::none_visited;
 
-// What the walk along the chain comes to: the first fault, and the header and the map nodes as a set.
+// What the walk along the chain comes to: the first fault, and how many the header and the map nodes are.
 pub struct Chain {
-    pub visited: Visited,
     pub nodes: u32,
     pub number: u32,
     pub place: Place,
@@ -38,25 +34,25 @@ fn map_node_right(image: &[u8], node: u32) -> bool
 }
 
 // The chain's walk stops at a node.
-fn faulty(visited: Visited, nodes: u32, node: u32) -> Chain
+fn faulty(nodes: u32, node: u32) -> Chain
     ensures { λ r. ⌜ (r .number ≡ 3) × (r .place ≡ nodePlace node) ⌝ }
 {
     let place = Place { node, offset: 0 };
     Chain {
-        visited,
         nodes,
         number: 3,
         place,
     }
 }
 
-// Test 3.
-pub fn map_chain(image: &[u8]) -> Chain
-    requires { ⌜ totalOf (now image) ≤ 6000 ⌝ }
-    ensures { λ r. ⌜ ChainOf (now (image .entry)) r ⌝ }
+// Test 3. The bits become those of the header and of the map nodes met.
+pub fn map_chain(image: &[u8], bits: &mut [u8]) -> Chain
+    requires { ⌜ Room (now image) (now bits) ⌝ }
+    ensures { λ r. ⌜ ChainOf (now (image .entry)) (now (bits .exit)) r ⌝ }
 {
     let total = be32(image, 36);
-    let mut visited = mark(none_visited(), 0);
+    clear(bits);
+    mark(bits, 0);
     let mut nodes: u32 = 1;
     let mut last: u32 = 0;
     let mut left = total;
@@ -66,24 +62,23 @@ pub fn map_chain(image: &[u8]) -> Chain
             break;
         }
         if next >= total {
-            return faulty(visited, nodes, last);
+            return faulty(nodes, last);
         }
-        if has(visited, next) {
-            return faulty(visited, nodes, last);
+        if has(bits, next) {
+            return faulty(nodes, last);
         }
         if !map_node_right(image, next) {
-            return faulty(visited, nodes, next);
+            return faulty(nodes, next);
         }
-        visited = mark(visited, next);
+        mark(bits, next);
         nodes += 1;
         last = next;
         left -= 1;
     }
     if total > 2048 + (nodes - 1) * 3952 {
-        return faulty(visited, nodes, last);
+        return faulty(nodes, last);
     }
     Chain {
-        visited,
         nodes,
         number: 0,
         place: Place { node: 0, offset: 0 },

@@ -1,3 +1,4 @@
 pub mod Tells
 pub mod Bound
+pub mod Inside
 pub mod Whole

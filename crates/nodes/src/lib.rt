@@ -1,6 +1,7 @@
 // The tests of a node by itself: 5, 6, and whether it is a whole leaf.
 ghost use mathlib.Core.Path.{_≡_};
 ghost use Rattle.btree.specs.Decide.{says};
+ghost use Rattle.nodes.specs.Inside.{NodeIn};
 ghost use Rattle.nodes.specs.Whole.{decWholeLeaf};
 use btree::Hit;
 use form::records_right;
@@ -11,6 +12,7 @@ pub mod order;
 
 // A node counts whatever its level and its links.
 pub fn is_whole(image: &[u8], node: u32) -> bool
+    requires { ⌜ NodeIn (now image) node ⌝ }
     ensures { λ r. ⌜ r ≡ says (decWholeLeaf (now (image .entry)) node) ⌝ }
 {
     if !records_right(image, node, 255) {

@@ -6,8 +6,9 @@ ghost use Rattle.btree.specs.Keys.{firstFall, FirstMeets};
 ghost use Rattle.formats.specs.Format.{view};
 ghost use Rattle.nodes.specs.Tells.{Tells};
 ghost use Rattle.nodes.specs.Bound.{bound};
+ghost use Rattle.nodes.specs.Inside.{RecordsIn};
 use btree::Hit;
-use formats::key::key_at;
+use formats::key::key_in;
 use formats::records::key_of;
 use formats::records::record_at;
 use formats::records::record_step;
@@ -28,6 +29,7 @@ fn first_meets(image: &[u8], node: u32, low: u64) -> bool
 
 // The first record whose key is not above the one before and below `high`.
 fn first_fall(image: &[u8], node: u32, high: u64) -> Hit
+    requires { ⌜ RecordsIn (now image) node ⌝ }
     ensures { λ r. ⌜ r ≡ hitOf (firstFall (view (now (image .entry))) (bound high) node) ⌝ }
 {
     let c = count_of(image, node);
@@ -36,7 +38,7 @@ fn first_fall(image: &[u8], node: u32, high: u64) -> Hit
     let mut next: u64 = 0;
     let mut i: u32 = 0;
     while i < c {
-        let key = key_at(image, at);
+        let key = key_in(image, at);
         if key < next {
             return Hit::At(i);
         }
@@ -52,6 +54,7 @@ fn first_fall(image: &[u8], node: u32, high: u64) -> Hit
 
 // Test 6: the first record whose key is not right. Keys that ascend from the one that points at the node are not below it, so no other is held against it.
 pub fn wrong_key(image: &[u8], node: u32, low: u64, high: u64) -> Hit
+    requires { ⌜ RecordsIn (now image) node ⌝ }
     ensures { λ r. ⌜ r ≡ hitOf (wrongKey (view (now (image .entry))) (bound low) (bound high) node) ⌝ }
 {
     if !first_meets(image, node, low) {

@@ -1,4 +1,7 @@
 // Prints the listing of an image, or of what can be read from a descriptor; and the verdict on an image that has a name.
+ghost use mathlib.Core.Path.{_≡_};
+ghost use Rattle.extents.specs.Reader.{verdict};
+use btree::Verdict;
 use extents::check;
 use lines::print;
 use lines::print_count;
@@ -27,9 +30,17 @@ fn print_rows(image: &[u8], rows: u32) {
     }
 }
 
+// With the bytes that the longest image needs: a bit for each of 65,536 nodes.
+fn verdict_on(image: &[u8]) -> Verdict
+    ensures { λ r. ⌜ r ≡ verdict (now (image .entry)) ⌝ }
+{
+    let mut work = [0u8; 8192];
+    check(image, &mut work)
+}
+
 // The verdict; and of a sound image the leaf records and their count.
 pub fn print_listing(image: &[u8]) {
-    let verdict = check(image);
+    let verdict = verdict_on(image);
     print_verdict(verdict);
     if verdict.number != 0 {
         return;
@@ -44,7 +55,7 @@ pub fn print_listing(image: &[u8]) {
 pub fn print_case(name: &[u8], image: &[u8]) {
     print(name);
     print(b": ");
-    print_verdict(check(image));
+    print_verdict(verdict_on(image));
 }
 
 // A short read is the end or an error, and only another read tells which.

@@ -13,7 +13,7 @@ use Rattle.image.proofs.Laws.{marked-same, marked-other, bit-small}
 use Rattle.btree.specs.declared.Verdict.{Verdict}
 use Rattle.step.specs.declared.state.Walk.{Walk}
 use Rattle.nodes.specs.Tells.{pick}
-use Rattle.step.specs.State.{stopped, kept}
+use Rattle.step.specs.State.{state, stopped, kept}
 use Rattle.step.specs.Room.{ones, Small}
 
 module _ (bits : List ℕ) (n : ℕ) (l : n / 8 < length bits) where
@@ -36,23 +36,25 @@ unfolding ones
 ones-le bits zero = omega arith
 ones-le bits (suc k) = omega (arith, ones-le bits k, bit-small bits k)
 
-pub small-stopped : (w : Walk) (t : Verdict) → Small w → Small (stopped w t)
+pub small-stopped : (b : List ℕ) (w : Walk) (t : Verdict) → Small (state b w) → Small (state b (stopped w t))
 unfolding stopped
-small-stopped w t s = record { records = s .records; nodes = s .nodes }
+small-stopped b w t s = record { records = s .records; nodes = s .nodes }
 
-pub small-kept : (w : Walk) (n d : ℕ) (leaf : Bool) (c : ℕ) → n < 6000 → length (w .visited) ≡ 750 → bitOf (w .visited) n ≡ 0 → c < 65536 → Small w
-    → Small (kept w n d leaf c)
-unfolding kept
-small-kept w n d leaf c h l u f s =
-    let e = ones-more (w .visited) n (omega arith) u 6000 h in
-    record { records = rw e (go leaf); nodes = rw e (omega (arith, s .nodes)) }
-  where
-    go : (b : Bool) → w .records + pick b c 0 ≤ 65535 * (ones (w .visited) 6000 + 1)
-    go true = omega (arith, s .records)
-    go false = omega (arith, s .records)
+pub nodes-fit : (b : List ℕ) (w : Walk) → Small (state b w) → w .nodes < 1000000
+nodes-fit b w s = omega (arith, s .nodes, ones-le b 65536)
 
-pub records-fit : (w : Walk) → Small w → w .records < 1000000000
-records-fit w s = omega (arith, s .records, ones-le (w .visited) 6000)
+-- a node that is not marked yet
+module _ (b : List ℕ) (w : Walk) (n : ℕ) (range : n < 65536) (room : n / 8 < length b) (unmarked : bitOf b n ≡ 0) (c : ℕ) (count : c < 65536) (s : Small (state b w)) where
+  more : ones (withBit b n) 65536 ≡ ones b 65536 + 1
+  more = ones-more b n room unmarked 65536 range
 
-pub nodes-fit : (w : Walk) → Small w → w .nodes < 1000000
-nodes-fit w s = omega (arith, s .nodes, ones-le (w .visited) 6000)
+  pub small-kept : (d : ℕ) (leaf : Bool) → Small (state (withBit b n) (kept w n d leaf c))
+  unfolding kept
+  small-kept d leaf = record { records = rw more (go leaf); nodes = rw more (omega (arith, s .nodes)) }
+    where
+      go : (leaf : Bool) → w .records + pick leaf c 0 ≤ 65535 * (ones b 65536 + 1)
+      go true = omega (arith, s .records)
+      go false = omega (arith, s .records)
+
+  pub records-fit : w .records + c < 4294967296
+  records-fit = omega (arith, s .records, more, ones-le (withBit b n) 65536)

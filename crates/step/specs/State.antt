@@ -20,13 +20,21 @@ use Rattle.step.specs.declared.state.Walk.{Walk}
 abbrev pub entry : ℕ → Place → ℕ → ℕ → ℕ → Entry
 entry n from d low high = record { node = n; from = from; level = d; low = bound low; high = bound high }
 
+-- the bits of the nodes met, with the header and the map chain, and what goes by value
+pub record State : Type 0 where
+  pub bits : List ℕ
+  pub rest : Walk
+
+abbrev pub state : List ℕ → Walk → State
+state b w = record { bits = b; rest = w }
+
 -- test 4: the bits set are those of the header, the map chain and the nodes met
 unfoldable pub freshIn : ℕ → List ℕ → ℕ → Bool
 freshIn total bits n = pick (ltb n total) (eqb (bitOf bits n) 0) false
 
 unfoldable pub stopped : Walk → Verdict → Walk
 stopped w t =
-    record { visited = w .visited; last = w .last; records = w .records; first = w .first; nodes = w .nodes; number = t .number; place = t .place }
+    record { last = w .last; records = w .records; first = w .first; nodes = w .nodes; number = t .number; place = t .place }
 
 -- the first leaf met, 0 for none
 unfoldable pub firstWith : Bool → ℕ → ℕ → ℕ
@@ -36,7 +44,6 @@ firstWith leaf first n = pick leaf (firstOr first n) first
 unfoldable pub kept : Walk → ℕ → ℕ → Bool → ℕ → Walk
 kept w n d leaf c =
     record {
-      visited = withBit (w .visited) n;
       last = set (w .last) d n;
       records = w .records + pick leaf c 0;
       first = firstWith leaf (w .first) n;
@@ -45,12 +52,15 @@ kept w n d leaf c =
       place = w .place;
     }
 
-unfoldable pub landed : View → Walk → Entry → Verdict → Walk
-landed v w e t = ifZero (t .number) (kept w (e .node) (e .level) (eqb (e .level + 1) (v .depth)) (v .count (e .node))) (stopped w t)
+unfoldable pub landed : View → State → Entry → Verdict → State
+landed v s e t =
+    ifZero (t .number)
+    (state (withBit (s .bits) (e .node)) (kept (s .rest) (e .node) (e .level) (eqb (e .level + 1) (v .depth)) (v .count (e .node))))
+    (state (s .bits) (stopped (s .rest) t))
 
 abbrev pub lastAt : Walk → ℕ → ℕ
 lastAt w d = getD (w .last) d 0
 
 -- the tests at an entry, and what is kept of it; a state with a fault stays
-unfoldable pub step : View → Walk → Entry → Walk
-step v w e = ifZero (w .number) (landed v w e (test v (freshIn (v .total) (w .visited) (e .node)) (lastAt w (e .level)) e)) w
+unfoldable pub step : View → State → Entry → State
+step v s e = ifZero (s .rest .number) (landed v s e (test v (freshIn (v .total) (s .bits) (e .node)) (lastAt (s .rest) (e .level)) e)) s

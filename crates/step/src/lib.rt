@@ -1,10 +1,11 @@
 // One step of the walk of a tree: tests 4 to 7 at a node, and what is kept of one that passes.
 ghost use Rattle.formats.specs.Format.{view};
-ghost use Rattle.step.specs.State.{step, entry};
+ghost use Rattle.step.specs.State.{state, step, entry};
 ghost use Rattle.step.specs.Ready.{Ready, Gives};
 use btree::Place;
 use hfs::node::count_of;
 use image::bytes::be32;
+use image::visited::mark;
 use node::is_fresh;
 use node::tested;
 use state::Walk;
@@ -14,9 +15,10 @@ use state::stopped_at;
 pub mod node;
 pub mod state;
 
-// The state with the node kept, or with the first fault at it.
+// The state with the node kept and its bit set, or with the first fault at it.
 pub fn stepped(
     image: &[u8],
+    bits: &mut [u8],
     w: Walk,
     node: u32,
     from: Place,
@@ -25,15 +27,16 @@ pub fn stepped(
     low: u64,
     high: u64,
 ) -> Walk
-    requires { ⌜ Ready (now image) level below w ⌝ }
-    ensures { λ r. ⌜ Gives r (step (view (now (image .entry))) w (entry node from level low high)) ⌝ }
+    requires { ⌜ Ready (now image) (now bits) level below w ⌝ }
+    ensures { λ r. ⌜ Gives (state (now (bits .exit)) r) (step (view (now (image .entry))) (state (now (bits .entry)) w) (entry node from level low high)) ⌝ }
 {
-    let fresh = is_fresh(&w.visited, be32(image, 36), node);
+    let fresh = is_fresh(bits, be32(image, 36), node);
     let p = w.last[level as usize];
     let t = tested(image, fresh, p, node, from, level, low, high);
     if t.number != 0 {
         return stopped_at(w, t);
     }
     let c = count_of(image, node);
+    mark(bits, node);
     kept_at(w, node, level, below == 0, c)
 }

@@ -1,9 +1,11 @@
 // The tests at a node of the tree: 4, 5, 6, 7.
 ghost use mathlib.Core.Path.{_≡_};
+ghost use mathlib.Core.Bool.{true};
 ghost use Prim.Native.Nat.{_<_};
 ghost use Rattle.btree.specs.Decide.{says};
 ghost use Rattle.btree.specs.Walk.{decLeads, test};
 ghost use Rattle.formats.specs.Format.{view};
+ghost use Rattle.nodes.specs.Inside.{NodeIn};
 ghost use Rattle.step.specs.State.{freshIn, entry};
 use btree::Hit;
 use btree::Place;
@@ -18,13 +20,13 @@ use nodes::form::node_right;
 use nodes::order::wrong_key;
 
 // Test 4.
-pub fn is_fresh(visited: &[u8], total: u32, node: u32) -> bool
-    ensures { λ r. ⌜ r ≡ freshIn total (now (visited .entry)) node ⌝ }
+pub fn is_fresh(bits: &[u8], total: u32, node: u32) -> bool
+    ensures { λ r. ⌜ r ≡ freshIn total (now (bits .entry)) node ⌝ }
 {
     if node >= total {
         return false;
     }
-    bit_at(visited, node as usize) == 0
+    bit_at(bits, node as usize) == 0
 }
 
 // Whether the node p, where it is one, has the forward link `node`.
@@ -48,7 +50,7 @@ pub fn tested(
     low: u64,
     high: u64,
 ) -> Verdict
-    requires { ⌜ level < 8 ⌝ }
+    requires { ⌜ (fresh ≡ true → NodeIn (now image) node) × (level < 8) ⌝ }
     ensures { λ r. ⌜ r ≡ test (view (now (image .entry))) fresh p (entry node from level low high) ⌝ }
 {
     if !fresh {

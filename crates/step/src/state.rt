@@ -7,15 +7,14 @@ ghost use Rattle.step.specs.Room.{Keepable};
 use btree::Place;
 use btree::Verdict;
 
-// The nodes met, with the header and the map chain, and what the tests at the end ask of them.
+// What the tests at the end ask of the nodes met; which ones they are is in the lent bytes.
 pub struct Walk {
-    pub visited: [u8; 750],
     // The last node met on each level, 0 for none.
     pub last: [u32; 8],
     // The leaves' records, and the first leaf.
     pub records: u32,
     pub first: u32,
-    // How many nodes are marked in `visited`.
+    // How many nodes are met, with the header and the map chain.
     pub nodes: u32,
     // The first fault, 0 for none.
     pub number: u32,
@@ -32,11 +31,9 @@ pub fn last_on(w: Walk, level: u32) -> u32
 pub fn stopped_at(w: Walk, t: Verdict) -> Walk
     ensures { λ r. ⌜ r ≡ stopped w t ⌝ }
 {
-    let visited = w.visited;
     let last = w.last;
     let place = t.place;
     Walk {
-        visited,
         last,
         records: w.records,
         first: w.first,
@@ -65,15 +62,12 @@ fn counted(leaf: bool, c: u32) -> u32
 
 // A node that passed its tests.
 pub fn kept_at(w: Walk, node: u32, level: u32, leaf: bool, c: u32) -> Walk
-    requires { ⌜ Keepable w node level c ⌝ }
+    requires { ⌜ Keepable w level c ⌝ }
     ensures { λ r. ⌜ r ≡ kept w node level leaf c ⌝ }
 {
     let first = first_with(leaf, w.first, node);
     let more = counted(leaf, c);
-    let n = node as usize;
     let mut x = w;
-    // In place: marking by a call would copy the bitmap twice for every node.
-    x.visited[n / 8] = x.visited[n / 8] | (128 >> (n % 8));
     x.last[level as usize] = node;
     x.records = x.records + more;
     x.first = first;

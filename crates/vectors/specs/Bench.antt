@@ -12,14 +12,14 @@ use Rattle.btree.specs.Numbers.{lookupNumbers, salvageReply}
 use Rattle.btree.specs.Halving.{halved}
 use Rattle.formats.specs.declared.key.Key.{Key}
 use Rattle.formats.specs.Key.{Lawful, packed, compared, asked}
-use Rattle.extents.specs.Reader.{verdict, lookedUp, salvaged}
+use Rattle.extents.specs.Reader.{needed, checked, lookedUp, salvaged}
 use Rattle.vectors.specs.Build.{keyBytes, E1, L1, twoLeaves, twoLeavesUnder, threeLevelsUnder}
 
 -- a question about an image, and what the paper says to it
 pub data Asks : Type 0 where
-  -- the check: number, node, offset
+  -- the check, with the needed bytes lent: number, node, offset
   check : ℕ → ℕ → ℕ → Asks
-  -- a lookup of one key: number, node, offset, keys compared, length of the path, its eight places
+  -- a lookup of one key, with the needed bytes lent: number, node, offset, keys compared, length of the path, its eight places
   look : Key → List ℕ → Asks
   -- a lookup of any key with a lawful fork byte
   lookAny : List ℕ → Asks
@@ -36,9 +36,9 @@ pub record Case : Type 0 where
   pub asks : Asks
 
 abbrev pub Says : List ℕ → Asks → Type 0
-Says img (check number node offset) = verdict img ≡ fails number (byteOf node offset)
-Says img (look k numbers) = lookupNumbers (lookedUp img k) ≡ numbers
-Says img (lookAny numbers) = (file fork start : ℕ) → Lawful fork → lookupNumbers (lookedUp img (asked file fork start)) ≡ numbers
+Says img (check number node offset) = checked img (needed img) ≡ fails number (byteOf node offset)
+Says img (look k numbers) = lookupNumbers (lookedUp img k (needed img)) ≡ numbers
+Says img (lookAny numbers) = (file fork start : ℕ) → Lawful fork → lookupNumbers (lookedUp img (asked file fork start) (needed img)) ≡ numbers
 Says img (sees k number node offset) = salvageReply (salvaged img k) ≡ fails number (byteOf node offset)
 Says img (packs k n) = packed k ≡ n
 Says img (compares a b z) = compared a b ≡ z

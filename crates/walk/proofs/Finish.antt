@@ -3,7 +3,7 @@
 use mathlib.Core.Path.{_≡_, sym, ap, subst, _∙_}
 use mathlib.Core.Logic.{_⊎_, inl, inr, ⊎-elim}
 use mathlib.Core.List.{List, [], _∷_, List·Memᴰ·head, List·Memᴰ·tail, List·Memᴰ·not-nil, List·Memᴰ·cases-cons, List·Memᴰ·append-cases, Memᴰ·append-left, Memᴰ·append-right}
-use Prim.Native.Nat.{ℕ, suc, _+_}
+use Prim.Native.Nat.{ℕ, suc, _+_, _*_, _≤_}
 use native.Mathlib.Omega.{arith}
 use lib.ListN.{length, getD, replicate, length-append, length-replicate, getD-replicate}
 use Rattle.btree.specs.declared.Verdict.{Verdict}
@@ -15,7 +15,7 @@ use Rattle.map.proofs.Marks.{marks-same}
 use Rattle.btree.proofs.Reached.{tree-size, entry-reached, reached-entry}
 use Rattle.step.specs.declared.state.Walk.{Walk}
 use Rattle.formats.specs.Format.{view}
-use Rattle.step.specs.State.{stopped}
+use Rattle.step.specs.State.{State, state, stopped}
 use Rattle.walk.proofs.Agree.{met, Agrees, onto}
 use Rattle.walk.specs.Outcome.{Ends}
 
@@ -66,9 +66,9 @@ module _ (v : View) where
       omega arith
 
 -- the state before the walk agrees with no entries
-pub begun : (v : View) (w : Walk) → length (w .visited) ≡ 750 → Marks (w .visited) (0 ∷ mapChain v) → w .nodes ≡ suc (length (mapChain v))
-    → w .last ≡ replicate 8 0 → w .records ≡ 0 → w .first ≡ 0 → w .number ≡ 0 → Agrees v w []
-begun v w long marks nodes last records first number =
+pub begun : (v : View) (bits : List ℕ) (w : Walk) → v .total ≤ 8 * length bits → Marks bits (0 ∷ mapChain v) → w .nodes ≡ suc (length (mapChain v))
+    → w .last ≡ replicate 8 0 → w .records ≡ 0 → w .first ≡ 0 → w .number ≡ 0 → Agrees v (state bits w) []
+begun v bits w long marks nodes last records first number =
     record {
       long = long;
       wide = ap length last ∙ length-replicate {A = ℕ} 8 0;
@@ -80,15 +80,16 @@ begun v w long marks nodes last records first number =
       number = number;
     }
 
--- a walk that ended, with what the tests at its end found
-pub ended : (img : List ℕ) (x : Walk) (t : Verdict) → Agrees (view img) x (onto (treeEntries (view img) (view img .depth)) []) → t ≡ walk (view img) → Ends img (stopped x t)
-unfolding stopped
-ended img x t a e = record { verdict = e; marks = λ z. marks-reached (view img) _ (a .marks); count = λ z. a .nodes ∙ size-reached (view img) }
+module _ (img bits : List ℕ) (x : Walk) where
+  -- a walk that ended, with what the tests at its end found
+  pub ended : (t : Verdict) → Agrees (view img) (state bits x) (onto (treeEntries (view img) (view img .depth)) []) → t ≡ walk (view img) → Ends img bits (stopped x t)
+  unfolding stopped
+  ended t a e = record { verdict = e; marks = λ z. marks-reached (view img) _ (a .marks); count = λ z. a .nodes ∙ size-reached (view img) }
 
--- a walk that met a fault
-pub faulted : (img : List ℕ) (x : Walk) → (x .number ≡ 0 → ⊥) → fails (x .number) (x .place) ≡ walk (view img) → Ends img x
-faulted img x n e = record { verdict = e; marks = λ z. absurd (n z); count = λ z. absurd (n z) }
+  -- a walk that met a fault
+  pub faulted : (x .number ≡ 0 → ⊥) → fails (x .number) (x .place) ≡ walk (view img) → Ends img bits x
+  faulted n e = record { verdict = e; marks = λ z. absurd (n z); count = λ z. absurd (n z) }
 
 -- a tree of no levels has no entries
-pub no-levels : (v : View) (w : Walk) → v .depth ≡ 0 → Agrees v w [] → Agrees v w (onto (treeEntries v (v .depth)) [])
-no-levels v w e a = subst (λ (k : ℕ). Agrees v w (onto (treeEntries v k) [])) (sym e) a
+pub no-levels : (v : View) (s : State) → v .depth ≡ 0 → Agrees v s [] → Agrees v s (onto (treeEntries v (v .depth)) [])
+no-levels v s e a = subst (λ (k : ℕ). Agrees v s (onto (treeEntries v k) [])) (sym e) a

@@ -12,43 +12,42 @@ use Rattle.btree.specs.Tree.{View}
 use Rattle.btree.specs.Walk.{Entry, entries}
 use Rattle.btree.proofs.Left.{one-more, none-left}
 use Rattle.btree.proofs.Entries.{kid}
-use Rattle.step.specs.declared.state.Walk.{Walk}
 use Rattle.walk.specs.declared.visit.Pointer.{Pointer}
 use Rattle.nodes.specs.Bound.{bound}
-use Rattle.step.specs.State.{step}
+use Rattle.step.specs.State.{State, step}
 use Rattle.step.proofs.Lands.{step-stuck}
 use Rattle.walk.specs.Visit.{steps, Points}
 
 module _ (v : View) where
-  pub steps-append : (w : Walk) (xs ys : List Entry) → steps v w (xs ++ ys) ≡ steps v (steps v w xs) ys
+  pub steps-append : (s : State) (xs ys : List Entry) → steps v s (xs ++ ys) ≡ steps v (steps v s xs) ys
   unfolding steps
-  steps-append w [] ys = refl
-  steps-append w (x ∷ xs) ys = steps-append (step v w x) xs ys
+  steps-append s [] ys = refl
+  steps-append s (x ∷ xs) ys = steps-append (step v s x) xs ys
 
-  pub steps-stuck : (w : Walk) (es : List Entry) → (w .number ≡ 0 → ⊥) → steps v w es ≡ w
+  pub steps-stuck : (s : State) (es : List Entry) → (s .rest .number ≡ 0 → ⊥) → steps v s es ≡ s
   unfolding steps
-  steps-stuck w [] h = refl
-  steps-stuck w (x ∷ es) h = rw (step-stuck v w x h) (steps-stuck w es h)
+  steps-stuck s [] h = refl
+  steps-stuck s (x ∷ es) h = rw (step-stuck v s x h) (steps-stuck s es h)
 
-  module _ (w : Walk) (b d : ℕ) (from : Place) (lo hi : Option ℕ) (n : ℕ) where
-    pub steps-leaf : b ≡ 0 → steps v w (entries v b d from lo hi n) ≡ step v w (record { node = n; from = from; level = d; low = lo; high = hi })
+  module _ (s : State) (b d : ℕ) (from : Place) (lo hi : Option ℕ) (n : ℕ) where
+    pub steps-leaf : b ≡ 0 → steps v s (entries v b d from lo hi n) ≡ step v s (record { node = n; from = from; level = d; low = lo; high = hi })
     unfolding steps
     steps-leaf e = rw e
 
     pub steps-index : (b ≡ 0 → ⊥)
-        → steps v w (entries v b d from lo hi n)
-        ≡ steps v (step v w (record { node = n; from = from; level = d; low = lo; high = hi })) (span 0 (v .count n) (kid v (b - 1) d hi n))
+        → steps v s (entries v b d from lo hi n)
+        ≡ steps v (step v s (record { node = n; from = from; level = d; low = lo; high = hi })) (span 0 (v .count n) (kid v (b - 1) d hi n))
     unfolding steps
-    steps-index h = let e : b ≡ suc (b - 1) = omega arith in ap (λ (k : ℕ). steps v w (entries v k d from lo hi n)) e
+    steps-index h = let e : b ≡ suc (b - 1) = omega arith in ap (λ (k : ℕ). steps v s (entries v k d from lo hi n)) e
 
-  pub kids-end : (f : ℕ → List Entry) (w : Walk) (c i : ℕ) → c ≤ i → steps v w (span i (c - i) f) ≡ w
+  pub kids-end : (f : ℕ → List Entry) (s : State) (c i : ℕ) → c ≤ i → steps v s (span i (c - i) f) ≡ s
   unfolding steps
-  kids-end f w c i h = rw (none-left c i h)
+  kids-end f s c i h = rw (none-left c i h)
 
-  pub kids-on : (h d n high : ℕ) (w r : Walk) (c i : ℕ) (p : Pointer) → i < c → Points v n i high p
-      → r ≡ steps v w (entries v h (d + 1) (p .from) (bound (p .low)) (bound (p .high)) (p .child))
-      → steps v w (span i (c - i) (kid v h d (bound high) n)) ≡ steps v r (span (i + 1) (c - (i + 1)) (kid v h d (bound high) n))
-  kids-on h d n high w r c i p l q e =
-      ap (λ (k : ℕ). steps v w (span i k (kid v h d (bound high) n))) (one-more c i l)
-      ∙ steps-append w (kid v h d (bound high) n i) (span (suc i) (c - (i + 1)) (kid v h d (bound high) n))
+  pub kids-on : (h d n high : ℕ) (s r : State) (c i : ℕ) (p : Pointer) → i < c → Points v n i high p
+      → r ≡ steps v s (entries v h (d + 1) (p .from) (bound (p .low)) (bound (p .high)) (p .child))
+      → steps v s (span i (c - i) (kid v h d (bound high) n)) ≡ steps v r (span (i + 1) (c - (i + 1)) (kid v h d (bound high) n))
+  kids-on h d n high s r c i p l q e =
+      ap (λ (k : ℕ). steps v s (span i k (kid v h d (bound high) n))) (one-more c i l)
+      ∙ steps-append s (kid v h d (bound high) n i) (span (suc i) (c - (i + 1)) (kid v h d (bound high) n))
       ∙ rw (e, q .child, q .from, q .low, q .under, add-one d, add-one i)

@@ -8,13 +8,12 @@ use Rattle.btree.specs.Places.{childPlace}
 use Rattle.btree.specs.Tree.{View}
 use Rattle.btree.specs.Walk.{Entry, above}
 use Rattle.nodes.specs.Bound.{bound}
-use Rattle.step.specs.declared.state.Walk.{Walk}
-use Rattle.step.specs.State.{step}
+use Rattle.step.specs.State.{State, step}
 use Rattle.walk.specs.declared.visit.Pointer.{Pointer}
 
-unfoldable pub steps : View → Walk → List Entry → Walk
-steps v w [] = w
-steps v w (e ∷ es) = steps v (step v w e) es
+unfoldable pub steps : View → State → List Entry → State
+steps v s [] = s
+steps v s (e ∷ es) = steps v (step v s e) es
 
 -- record i of a node: its child and where the child's number stands, the key that points there, and the bound of the keys there
 pub record Points (v : View) (n i high : ℕ) (p : Pointer) : Type 0 where

@@ -4,7 +4,6 @@ use btree::Place;
 use closing::closing_tests;
 use image::bytes::be16;
 use image::bytes::be32;
-use image::visited::Visited;
 use step::state::Walk;
 use step::state::stopped_at;
 use visit::visit;
@@ -12,14 +11,12 @@ use visit::visit;
 pub mod closing;
 pub mod visit;
 
-// Tests 4 to 8, where `visited` has the header and the map chain, and they are so many.
-pub fn tree_tests(image: &[u8], visited: Visited, nodes: u32) -> Walk
-    requires { ⌜ Begins (now image) (visited .bits) nodes ⌝ }
-    ensures { λ r. ⌜ Ends (now (image .entry)) r ⌝ }
+// Tests 4 to 8, where the bits set are those of the header and the map chain, and they are so many.
+pub fn tree_tests(image: &[u8], bits: &mut [u8], nodes: u32) -> Walk
+    requires { ⌜ Begins (now image) (now bits) nodes ⌝ }
+    ensures { λ r. ⌜ Ends (now (image .entry)) (now (bits .exit)) r ⌝ }
 {
-    let bits = visited.bits;
     let w = Walk {
-        visited: bits,
         last: [0; 8],
         records: 0,
         first: 0,
@@ -39,7 +36,7 @@ pub fn tree_tests(image: &[u8], visited: Visited, nodes: u32) -> Walk
         node: 0,
         offset: 16,
     };
-    let x = visit(image, w, root, root_field, 0, depth - 1, none, none);
+    let x = visit(image, bits, w, root, root_field, 0, depth - 1, none, none);
     if x.number != 0 {
         return x;
     }

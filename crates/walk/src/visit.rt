@@ -4,6 +4,7 @@ ghost use Prim.Native.Nat.{_<_};
 ghost use Rattle.btree.specs.Walk.{entries};
 ghost use Rattle.nodes.specs.Bound.{bound};
 ghost use Rattle.formats.specs.Format.{view};
+ghost use Rattle.step.specs.State.{state};
 ghost use Rattle.step.specs.Ready.{Ready, Gives};
 ghost use Rattle.walk.specs.Visit.{steps, Points};
 use btree::Place;
@@ -50,6 +51,7 @@ fn pointer_at(image: &[u8], node: u32, i: u32, c: u32, high: u64) -> Pointer
 // The node whose number stands at `from`: each node before its children, children left to right; the levels still below the node fall.
 pub fn visit(
     image: &[u8],
+    bits: &mut [u8],
     w: Walk,
     node: u32,
     from: Place,
@@ -58,10 +60,10 @@ pub fn visit(
     low: u64,
     high: u64,
 ) -> Walk
-    requires { ⌜ Ready (now image) level below w ⌝ }
-    ensures { λ r. ⌜ Gives r (steps (view (now (image .entry))) w (entries (view (now (image .entry))) below level from (bound low) (bound high) node)) ⌝ }
+    requires { ⌜ Ready (now image) (now bits) level below w ⌝ }
+    ensures { λ r. ⌜ Gives (state (now (bits .exit)) r) (steps (view (now (image .entry))) (state (now (bits .entry)) w) (entries (view (now (image .entry))) below level from (bound low) (bound high) node)) ⌝ }
 {
-    let mut x = stepped(image, w, node, from, level, below, low, high);
+    let mut x = stepped(image, bits, w, node, from, level, below, low, high);
     if below == 0 {
         return x;
     }
@@ -73,7 +75,17 @@ pub fn visit(
         }
         let p = pointer_at(image, node, i, c, high);
         let from = p.from;
-        x = visit(image, x, p.child, from, level + 1, below - 1, p.low, p.high);
+        x = visit(
+            image,
+            bits,
+            x,
+            p.child,
+            from,
+            level + 1,
+            below - 1,
+            p.low,
+            p.high,
+        );
         i += 1;
     }
     x

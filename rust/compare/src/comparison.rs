@@ -1,6 +1,7 @@
 //! One question to both readers, and what is shown when they differ.
 
 use crate::expected;
+use crate::lent::Lender;
 use crate::seed::{seed, SEED_VARIABLE};
 use images::Key;
 use std::fmt::Debug;
@@ -19,17 +20,22 @@ pub struct Tally {
     pub absent: u64,
     /// Pairs that salvage saw.
     pub seen: u64,
+    /// Checks and lookups with fewer working bytes than needed, just enough, and more.
+    pub too_few: u64,
+    pub enough: u64,
+    pub more: u64,
 }
 
 /// Images under one heading, and the count of what was asked of them.
 pub struct Comparison {
     name: &'static str,
     tally: Tally,
+    lender: Lender,
 }
 
 impl Comparison {
     pub fn new(name: &'static str) -> Comparison {
-        Comparison { name, tally: Tally::default() }
+        Comparison { name, tally: Tally::default(), lender: Lender::new(seed()) }
     }
 
     pub fn tally(&self) -> Tally {
@@ -39,7 +45,7 @@ impl Comparison {
     /// Compares the verdicts on an image, and the answers for each key.
     pub fn ask(&mut self, image: &[u8], keys: impl IntoIterator<Item = Key>) {
         self.tally.images += 1;
-        self.same(image, "check", hfs_btree::check(image), expected::check(image));
+        self.check(image);
         for key in keys {
             self.tally.pairs += 1;
             self.lookup(image, key);
@@ -47,9 +53,15 @@ impl Comparison {
         }
     }
 
+    fn check(&mut self, image: &[u8]) {
+        let proved = |work: &mut [u8]| hfs_btree::check(image, work);
+        self.with_lent(image, "check", proved, |work| expected::check(image, work));
+    }
+
     fn lookup(&mut self, image: &[u8], key: Key) {
-        let got = hfs_btree::lookup(image, key.file, key.fork, key.start);
-        self.same(image, key, got, expected::lookup(image, key));
+        let Key { file, fork, start } = key;
+        let proved = |work: &mut [u8]| hfs_btree::lookup(image, file, fork, start, work);
+        let got = self.with_lent(image, key, proved, |work| expected::lookup(image, key, work));
         match got.answer {
             hfs_btree::Answer::Found { .. } => self.tally.found += 1,
             hfs_btree::Answer::Absent { .. } => self.tally.absent += 1,
@@ -63,6 +75,45 @@ impl Comparison {
         if let hfs_btree::SalvageAnswer::Seen { .. } = got.answer {
             self.tally.seen += 1;
         }
+    }
+
+    /// Asks once with fewer working bytes than the image needs, where it needs any, and once with
+    /// enough or more, and compares the answers and every byte afterwards. Says what the second got.
+    fn with_lent<T: Debug + PartialEq>(
+        &mut self,
+        image: &[u8],
+        asked: impl Debug + Copy,
+        proved: impl Fn(&mut [u8]) -> T,
+        expected: impl Fn(&mut [u8]) -> T,
+    ) -> T {
+        let needed = reference::needed_work(image.len());
+        if let Some(work) = self.lender.too_few(needed) {
+            self.tally.too_few += 1;
+            self.same_work(image, asked, work, &proved, &expected);
+        }
+        let work = self.lender.enough(needed);
+        if work.len() == needed {
+            self.tally.enough += 1;
+        } else {
+            self.tally.more += 1;
+        }
+        self.same_work(image, asked, work, &proved, &expected)
+    }
+
+    fn same_work<T: Debug + PartialEq>(
+        &self,
+        image: &[u8],
+        asked: impl Debug + Copy,
+        work: Vec<u8>,
+        proved: &impl Fn(&mut [u8]) -> T,
+        expected: &impl Fn(&mut [u8]) -> T,
+    ) -> T {
+        let (mut left, mut expected_left) = (work.clone(), work);
+        let got = proved(&mut left);
+        let said = expected(&mut expected_left);
+        self.same(image, asked, &got, &said);
+        self.same(image, (asked, "working bytes"), &left, &expected_left);
+        got
     }
 
     fn same<T: Debug + PartialEq>(&self, image: &[u8], asked: impl Debug, got: T, expected: T) {

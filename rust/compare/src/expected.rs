@@ -4,13 +4,13 @@ use hfs_btree::{Answer, Lookup, Place, Salvage, SalvageAnswer, Verdict};
 use images::Key;
 use std::ops::Range;
 
-pub fn check(image: &[u8]) -> Verdict {
-    let reference::Verdict { number, place: said } = reference::check(image);
+pub fn check(image: &[u8], work: &mut [u8]) -> Verdict {
+    let reference::Verdict { number, place: said } = reference::check(image, work);
     Verdict { number, place: place(said) }
 }
 
-pub fn lookup(image: &[u8], key: Key) -> Lookup {
-    let said = reference::lookup(image, key.file, key.fork, key.start);
+pub fn lookup(image: &[u8], key: Key, work: &mut [u8]) -> Lookup {
+    let said = reference::lookup(image, key.file, key.fork, key.start, work);
     let answer = match said.answer {
         reference::Answer::Found { place: said } => Answer::Found { place: place(said) },
         reference::Answer::Absent { node } => Answer::Absent { node },

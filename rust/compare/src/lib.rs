@@ -4,6 +4,7 @@ mod comparison;
 mod expected;
 pub mod families;
 mod keys;
+mod lent;
 mod seed;
 
 pub use comparison::{Comparison, Tally};

@@ -28,6 +28,8 @@ fn main() {
     });
     let total = total.into_inner().expect("no thread panicked");
     println!("{} images, {} image-and-key pairs, no difference", total.images, total.pairs);
+    let Tally { too_few, enough, more, .. } = total;
+    println!("working bytes lent: {too_few} times too few, {enough} just enough, {more} more");
     assert!(total.pairs >= LEAST_PAIRS, "fewer than {LEAST_PAIRS} pairs");
 }
 
@@ -35,7 +37,7 @@ fn run(family: &Family, seed: u64) -> Tally {
     let started = Instant::now();
     let mut comparison = Comparison::new(family.name);
     (family.run)(&mut comparison, seed);
-    let Tally { images, pairs, found, absent, seen } = comparison.tally();
+    let Tally { images, pairs, found, absent, seen, .. } = comparison.tally();
     let seconds = started.elapsed().as_secs_f64();
     println!(
         "{:24}{images:9} images{pairs:9} pairs: {found:8} found{absent:8} absent{seen:8} seen{seconds:7.1} s",
@@ -48,4 +50,7 @@ fn add(total: &Mutex<Tally>, part: Tally) {
     let mut total = total.lock().expect("no thread panicked");
     total.images += part.images;
     total.pairs += part.pairs;
+    total.too_few += part.too_few;
+    total.enough += part.enough;
+    total.more += part.more;
 }

@@ -1,13 +1,15 @@
 //! The calls into the archive; `include/hfs_btree.h` has the same for C.
 
 extern "C" {
-    fn hfs_check(image: *const u8, len: usize, out: *mut [u32; 3]);
+    fn hfs_check(image: *const u8, len: usize, work: *mut u8, work_len: usize, out: *mut [u32; 3]);
     fn hfs_lookup(
         image: *const u8,
         len: usize,
         file: u32,
         fork: u8,
         start: u16,
+        work: *mut u8,
+        work_len: usize,
         out: *mut [u32; 13],
         data: *mut [u8; 12],
     );
@@ -26,19 +28,30 @@ extern "C" {
 const UNWRITTEN: u32 = 0xDEAD_BEEF;
 const UNWRITTEN_BYTE: u8 = 0xA5;
 
-pub fn check(image: &[u8]) -> [u32; 3] {
+pub fn check(image: &[u8], work: &mut [u8]) -> [u32; 3] {
     let mut out = [UNWRITTEN; 3];
-    // SAFETY: the image is a live slice and only read, and `out` is an array of its own.
-    unsafe { hfs_check(image.as_ptr(), image.len(), &mut out) };
+    let (bytes, len) = (image.as_ptr(), image.len());
+    let (lent, lent_len) = (work.as_mut_ptr(), work.len());
+    // SAFETY: the image is a live slice and only read, `work` is a live slice lent to write, and `out`
+    // is an array of its own.
+    unsafe { hfs_check(bytes, len, lent, lent_len, &mut out) };
     out
 }
 
-pub fn lookup(image: &[u8], file: u32, fork: u8, start: u16) -> ([u32; 13], [u8; 12]) {
+pub fn lookup(
+    image: &[u8],
+    file: u32,
+    fork: u8,
+    start: u16,
+    work: &mut [u8],
+) -> ([u32; 13], [u8; 12]) {
     let mut out = [UNWRITTEN; 13];
     let mut data = [UNWRITTEN_BYTE; 12];
     let (bytes, len) = (image.as_ptr(), image.len());
-    // SAFETY: the image is a live slice and only read, and `out` and `data` are arrays of their own.
-    unsafe { hfs_lookup(bytes, len, file, fork, start, &mut out, &mut data) };
+    let (lent, lent_len) = (work.as_mut_ptr(), work.len());
+    // SAFETY: the image is a live slice and only read, `work` is a live slice lent to write, and `out`
+    // and `data` are arrays of their own.
+    unsafe { hfs_lookup(bytes, len, file, fork, start, lent, lent_len, &mut out, &mut data) };
     (out, data)
 }
 

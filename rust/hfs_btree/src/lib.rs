@@ -1,8 +1,15 @@
 //! The proved reader of HFS extents overflow files, as safe functions on any bytes.
 //!
 //! An image need not have been checked before: `lookup` checks it whole, and `salvage` trusts no node.
+//! `check` and `lookup` work in bytes that the caller lends, one bit for each node of the image;
+//! [`needed_work`] says how many that is.
 
 mod archive;
+
+/// How many working bytes a check of an image of this length, or a lookup in it, needs.
+pub const fn needed_work(image_len: usize) -> usize {
+    (image_len / 512).div_ceil(8)
+}
 
 /// A byte of an image: its node, and its offset there.
 #[derive(Clone, Copy, Debug, PartialEq, Eq)]
@@ -76,14 +83,21 @@ const SEEN: u32 = 13;
 const NOT_SEEN: u32 = 14;
 
 /// Is the image sound, and if not, what is its first fault?
-pub fn check(image: &[u8]) -> Verdict {
-    let [number, node, offset] = archive::check(image);
+///
+/// With fewer than the needed bytes the answer is 16. After 1 and 16 `work` is as it was. After
+/// another fault the needed bytes are zero. Of a sound image they have the bits of the nodes in use
+/// set and no others, the top bit of a byte first. Bytes beyond the needed ones stay.
+pub fn check(image: &[u8], work: &mut [u8]) -> Verdict {
+    let [number, node, offset] = archive::check(image, work);
     Verdict { number, place: Place { node, offset } }
 }
 
 /// What stands under a key of a sound image?
-pub fn lookup(image: &[u8], file: u32, fork: u8, start: u16) -> Lookup {
-    let (out, data) = archive::lookup(image, file, fork, start);
+///
+/// The image is checked first: `work` is lent to that check, and is as it was if the fork byte is
+/// refused.
+pub fn lookup(image: &[u8], file: u32, fork: u8, start: u16, work: &mut [u8]) -> Lookup {
+    let (out, data) = archive::lookup(image, file, fork, start, work);
     let [number, node, offset, compared, path_len, path @ ..] = out;
     let place = Place { node, offset };
     let answer = match number {

@@ -1,6 +1,6 @@
 //! The smallest images of the paper's bench, with the paper's answers.
 
-use hfs_btree::{check, lookup, salvage, Answer, Lookup, Place, Salvage, SalvageAnswer, Verdict};
+use hfs_btree::{needed_work, salvage, Answer, Lookup, Place, Salvage, SalvageAnswer, Verdict};
 use images::bench::{
     e1, e1_with_map_byte, index_with, l1, l1_with_back_link_1, leaf_with, two_leaves,
     two_leaves_with_levels, two_leaves_with_pointer,
@@ -8,6 +8,15 @@ use images::bench::{
 use images::Key;
 
 const NO_DATA: [u8; 12] = [0; 12];
+
+/// With just the needed working bytes.
+fn check(image: &[u8]) -> Verdict {
+    hfs_btree::check(image, &mut vec![0xA5; needed_work(image.len())])
+}
+
+fn lookup(image: &[u8], file: u32, fork: u8, start: u16) -> Lookup {
+    hfs_btree::lookup(image, file, fork, start, &mut vec![0xA5; needed_work(image.len())])
+}
 
 fn at(node: u32, offset: u32) -> Place {
     Place { node, offset }
@@ -25,6 +34,7 @@ fn answered(answer: Answer) -> Lookup {
 fn verdicts() {
     assert_eq!(check(&[]), verdict(1, 0, 0));
     assert_eq!(check(&[0; 512]), verdict(2, 0, 0));
+    assert_eq!(check(&vec![0; 33_554_944]), verdict(1, 0, 0));
     assert_eq!(check(&e1()), verdict(0, 0, 0));
     assert_eq!(check(&e1_with_map_byte(0xC0)), verdict(9, 0, 0xF8));
     assert_eq!(check(&l1_with_back_link_1()), verdict(7, 1, 4));
@@ -103,6 +113,31 @@ fn salvages() {
     assert_eq!(salvage(&l1(), 16, 0xFF, 5), not_seen);
     let answer = SalvageAnswer::Refused { number: 11, place: at(0, 0) };
     assert_eq!(salvage(&l1(), 16, 0x01, 5), Salvage { answer, data: NO_DATA });
+}
+
+#[test]
+fn working_bytes() {
+    let left = |image: &[u8], lent: &[u8]| {
+        let mut work = lent.to_vec();
+        let number = hfs_btree::check(image, &mut work).number;
+        (number, work)
+    };
+    // A bit for each of two nodes, the top bit first; the second byte is not needed.
+    assert_eq!(left(&l1(), &[0x2A, 0x2B]), (0, vec![0xC0, 0x2B]));
+    assert_eq!(left(&l1_with_back_link_1(), &[0x2A, 0x2B]), (7, vec![0x00, 0x2B]));
+    assert_eq!(left(&[0; 512], &[0x2A, 0x2B]), (2, vec![0x00, 0x2B]));
+    assert_eq!(left(&l1(), &[]), (16, vec![]));
+    assert_eq!(left(&[0; 511], &[]), (1, vec![]));
+    assert_eq!(left(&[0; 511], &[0x2A]), (1, vec![0x2A]));
+    // 65 nodes need nine bytes.
+    let nodes_65 = images::bench::empty_tree(65);
+    assert_eq!(left(&nodes_65, &[0x2A; 8]), (16, vec![0x2A; 8]));
+    assert_eq!(left(&nodes_65, &[0x2A; 9]).1, [0x80, 0, 0, 0, 0, 0, 0, 0, 0]);
+    let mut work = [0x2A, 0x2B];
+    let refused = hfs_btree::lookup(&l1(), 16, 0x01, 5, &mut work).answer;
+    assert_eq!((refused, work), (Answer::Refused { number: 11, place: at(0, 0) }, [0x2A, 0x2B]));
+    let absent = hfs_btree::lookup(&l1(), 16, 0xFF, 5, &mut work).answer;
+    assert_eq!((absent, work), (Answer::Absent { node: 1 }, [0xC0, 0x2B]));
 }
 
 #[test]

@@ -7,6 +7,7 @@ mod build;
 pub mod by_hand;
 mod garbage;
 pub mod key;
+mod largest;
 pub mod node;
 mod numbering;
 pub mod plan;

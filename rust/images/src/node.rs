@@ -3,7 +3,7 @@
 use crate::key::Key;
 
 pub const NODE_SIZE: usize = 512;
-pub const MOST_NODES: usize = 6_000;
+pub const MOST_NODES: usize = 65_536;
 pub const RECORDS_AT: usize = 14;
 pub const LEAF_RECORD_SIZE: usize = 20;
 pub const INDEX_RECORD_SIZE: usize = 12;

@@ -1,6 +1,7 @@
 //! Generated images with names, for tests and measurements.
 
 use crate::build::{build, Built};
+use crate::largest::largest_plan;
 use crate::plan::Plan;
 
 /// Two levels in 64 nodes, untidy in every allowed way.
@@ -38,10 +39,35 @@ pub fn three_level_large() -> Built {
     })
 }
 
-/// The most leaf records that 6,000 nodes can hold: 5,825 full leaves.
+/// Three levels in 12,000 nodes, with the three map nodes that these need.
 ///
-/// The header and the map node leave 5,998 nodes; 5,825 leaves need 167 + 5 + 1 index nodes, which
-/// is just that, and 5,826 leaves would need one node more.
+/// The header and two map nodes have 2,048 + 2 x 3,952 = 9,952 bits.
+pub fn needed_map_nodes() -> Built {
+    build(&Plan { free_nodes: 12_000 - 4 - 1 - 8 - 200, ..Plan::untidy(7, &[1, 8, 200]) })
+}
+
+/// The most leaf records that an image can hold: 63,644 full leaves in 65,536 nodes.
+///
+/// The header has 2,048 map bits and 16 map nodes have 63,232, which is 256 short, so there are 17.
+/// With the header they leave 65,518 nodes; 63,644 leaves need 1,819 + 52 + 2 + 1 index nodes on
+/// four levels, which is just that, and 63,645 leaves would need one node more.
 pub fn largest() -> Built {
-    build(&Plan { shuffled: true, ..Plan::tidy(5, &[1, 5, 167, 5_825]) })
+    largest_of(65_536)
+}
+
+/// The same tree with its nodes in the order of their levels.
+pub fn largest_in_order() -> Built {
+    build(&largest_plan(5, 65_536))
+}
+
+/// The most leaf records that exactly so many nodes can hold, all in full leaves.
+///
+/// - 1: only the header, so that the tree is empty.
+/// - 100: the header leaves 99; 95 leaves need 3 + 1 index nodes.
+/// - 6,000: the header and one map node, which have just 6,000 bits, leave 5,998; 5,825 leaves need
+///   167 + 5 + 1 index nodes.
+///
+/// Each of these is just what is left, and another leaf would need one node more.
+pub fn largest_of(nodes: usize) -> Built {
+    build(&Plan { shuffled: true, ..largest_plan(5, nodes) })
 }

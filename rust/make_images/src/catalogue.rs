@@ -22,6 +22,9 @@ pub fn catalogue() -> Vec<Sample> {
     all.extend(with_spoiled("falling_map_nodes", samples::falling_map_nodes()));
     all.push(sample("longest_listed", samples::longest_listed().image));
     all.push(sample("three_level_large", samples::three_level_large().image));
+    all.push(sample("needed_map_nodes", samples::needed_map_nodes().image));
+    all.push(sample("largest_of_100_nodes", samples::largest_of(100).image));
+    all.push(sample("largest_of_6000_nodes", samples::largest_of(6_000).image));
     all.push(sample("largest", samples::largest().image));
     all
 }
@@ -31,7 +34,7 @@ fn bench_samples() -> Vec<Sample> {
         sample("length_0", Vec::new()),
         sample("length_511", vec![0; 511]),
         sample("zeros_512", vec![0; 512]),
-        sample("length_3072512", vec![0; 3_072_512]),
+        sample("length_33554944", vec![0; 33_554_944]),
         sample("e1", e1()),
         sample("e1_map_byte_00", e1_with_map_byte(0x00)),
         sample("e1_map_byte_c0", e1_with_map_byte(0xC0)),

@@ -3,7 +3,7 @@
 mod catalogue;
 
 use catalogue::{catalogue, Sample};
-use reference::{check, listing, Verdict};
+use reference::{check, listing, needed_work, Verdict};
 use std::path::{Path, PathBuf};
 use std::process::ExitCode;
 use std::{env, fs, io};
@@ -34,7 +34,8 @@ fn write_all(folder: &Path) -> io::Result<usize> {
     for Sample { name, image } in &samples {
         fs::write(folder.join(format!("{name}.img")), image)?;
         fs::write(folder.join(format!("{name}.expected")), listing(image))?;
-        let Verdict { number, place } = check(image);
+        let mut work = vec![0; needed_work(image.len())];
+        let Verdict { number, place } = check(image, &mut work);
         verdicts += &format!("{name} {number} {} {}\n", place.node, place.offset);
     }
     fs::write(folder.join("verdicts.txt"), verdicts)?;

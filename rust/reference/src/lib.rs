@@ -18,6 +18,7 @@ mod record;
 mod salvage;
 mod tree;
 mod verdict;
+mod work;
 
 pub use check::check;
 pub use key::Key;
@@ -27,3 +28,4 @@ pub use lookup::{lookup, Answer, Lookup};
 pub use place::Place;
 pub use salvage::{salvage, Salvage, SalvageAnswer};
 pub use verdict::Verdict;
+pub use work::needed_work;

@@ -3,6 +3,7 @@
 use crate::check::check;
 use crate::leaves::{leaf_records, LeafRecord};
 use crate::verdict::Verdict;
+use crate::work::needed_work;
 use std::fmt::{self, Write};
 
 const MOST_INPUT: usize = 65_536;
@@ -18,7 +19,7 @@ pub fn listing(input: &[u8]) -> String {
 }
 
 fn write_listing(output: &mut String, image: &[u8]) -> fmt::Result {
-    let verdict = check(image);
+    let verdict = check(image, &mut [0; needed_work(MOST_INPUT)]);
     let Verdict { number, place } = verdict;
     writeln!(output, "verdict {number} {} {}", place.node, place.offset)?;
     if verdict != Verdict::SOUND {

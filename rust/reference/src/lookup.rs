@@ -33,11 +33,14 @@ pub struct Lookup {
 }
 
 /// Looks a key up, after checking the fork byte and the whole image.
-pub fn lookup(image: &[u8], file: u32, fork: u8, start: u16) -> Lookup {
+///
+/// It treats `work` as [`check`](crate::check) does, and leaves it as it was where the fork byte is
+/// wrong.
+pub fn lookup(image: &[u8], file: u32, fork: u8, start: u16, work: &mut [u8]) -> Lookup {
     if !is_lawful_fork(fork) {
         return refused(Verdict::new(ASKED_FORK, Place::START));
     }
-    match open(image) {
+    match open(image, work) {
         Ok(sound) => descend(&sound, Key { file, fork, start }.packed()),
         Err(fault) => refused(fault),
     }

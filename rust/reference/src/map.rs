@@ -15,39 +15,51 @@ const NODE_MAP: Range<usize> = RECORDS_AT..0x1FC;
 const OFFSET_WORDS: [u8; 4] = [0x01, 0xFC, 0x00, 0x0E];
 
 /// Test 3: follows the chain from the header and adds its nodes to those met.
-pub fn follow_chain(nodes: &[Node], met: &mut NodeSet) -> Result<Vec<u32>, Verdict> {
-    let mut chain = Vec::new();
+pub fn follow_chain(nodes: &[Node], met: &mut NodeSet) -> Result<(), Verdict> {
+    let mut map_bytes = HEADER_MAP.len();
     let mut last = 0;
     met.insert(0);
-    loop {
-        let next = forward_link(&nodes[last as usize]);
-        if next == 0 {
-            break;
-        }
+    while let Some(next) = next_in_chain(nodes, last) {
         let new = (next as usize) < nodes.len() && met.insert(next);
         require(new, MAP_CHAIN, Place::of_node(last))?;
         require(is_map_node(&nodes[next as usize]), MAP_CHAIN, Place::of_node(next))?;
-        chain.push(next);
+        map_bytes += NODE_MAP.len();
         last = next;
     }
-    let bits = 8 * (HEADER_MAP.len() + chain.len() * NODE_MAP.len());
-    require(bits >= nodes.len(), MAP_CHAIN, Place::of_node(last))?;
-    Ok(chain)
+    require(8 * map_bytes >= nodes.len(), MAP_CHAIN, Place::of_node(last))
 }
 
-/// Test 9: every bit the chain carries is set exactly when its node was met.
-pub fn compare_bits(nodes: &[Node], chain: &[u32], met: &NodeSet) -> Result<(), Verdict> {
-    let map_nodes = chain.iter().map(|&number| (number, NODE_MAP));
-    let map_records = iter::once((0, HEADER_MAP)).chain(map_nodes);
-    let map_bytes = map_records.flat_map(|(number, record)| iter::repeat(number).zip(record));
-    // Bits beyond the last node belong to no node, so none of them was met.
-    let expected = met.bytes().iter().chain(iter::repeat(&0));
-    for ((number, offset), &expected) in map_bytes.zip(expected) {
-        // The bytes come in the order of their bits, so the first wrong one has the lowest.
-        let right = nodes[number as usize][offset] == expected;
-        require(right, MAP_BITS, Place::in_node(number, offset))?;
+/// Test 9: every bit of a chain that has passed test 3 is set exactly when its node was met.
+pub fn compare_bits(nodes: &[Node], met: &NodeSet) -> Result<(), Verdict> {
+    let first = next_in_chain(nodes, 0);
+    let map_nodes = iter::successors(first, |&number| next_in_chain(nodes, number));
+    let map_records = iter::once((0, HEADER_MAP)).chain(map_nodes.map(|number| (number, NODE_MAP)));
+    let mut met = met.bytes();
+    for (number, record) in map_records {
+        let start = record.start;
+        let bytes = &nodes[number as usize][record];
+        let (expected, later) = met.split_at(bytes.len().min(met.len()));
+        if let Some(wrong) = first_wrong(bytes, expected) {
+            return Err(Verdict::new(MAP_BITS, Place::in_node(number, start + wrong)));
+        }
+        met = later;
     }
     Ok(())
+}
+
+/// The first byte of a map record that is not as expected; the lowest wrong bit is in it.
+fn first_wrong(bytes: &[u8], expected: &[u8]) -> Option<usize> {
+    let (of_nodes, beyond) = bytes.split_at(expected.len());
+    if of_nodes != expected {
+        return of_nodes.iter().zip(expected).position(|(byte, expected)| byte != expected);
+    }
+    // Bits beyond the last node belong to no node, so none of them was met.
+    beyond.iter().position(|&byte| byte != 0).map(|wrong| expected.len() + wrong)
+}
+
+fn next_in_chain(nodes: &[Node], number: u32) -> Option<u32> {
+    let next = forward_link(&nodes[number as usize]);
+    (next != 0).then_some(next)
 }
 
 fn is_map_node(node: &Node) -> bool {

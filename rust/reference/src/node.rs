@@ -3,7 +3,7 @@
 use std::ops::Range;
 
 pub const NODE_SIZE: usize = 512;
-pub const MOST_NODES: usize = 6_000;
+pub const MOST_NODES: usize = 65_536;
 pub const FORWARD_LINK_AT: usize = 0;
 pub const BACK_LINK_AT: usize = 4;
 pub const RECORDS_AT: usize = 14;

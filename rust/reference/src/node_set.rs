@@ -1,14 +1,16 @@
 //! Which nodes have been met so far.
 
 /// A set of node numbers, kept as a bitmap in the bit order of the map records.
-pub struct NodeSet {
-    bytes: Vec<u8>,
+pub struct NodeSet<'a> {
+    bytes: &'a mut [u8],
     len: usize,
 }
 
-impl NodeSet {
-    pub fn new(node_count: usize) -> NodeSet {
-        NodeSet { bytes: vec![0; node_count.div_ceil(8)], len: 0 }
+impl<'a> NodeSet<'a> {
+    /// An empty set in lent bytes, whatever they hold; it has room for eight nodes in each.
+    pub fn new(bytes: &'a mut [u8]) -> NodeSet<'a> {
+        bytes.fill(0);
+        NodeSet { bytes, len: 0 }
     }
 
     /// Adds a node; answers false if it was there already.
@@ -28,6 +30,6 @@ impl NodeSet {
     }
 
     pub fn bytes(&self) -> &[u8] {
-        &self.bytes
+        self.bytes
     }
 }

@@ -21,10 +21,10 @@ pub struct LeafTotals {
     pub last: u32,
 }
 
-struct Walk<'a> {
+struct Walk<'a, 'work> {
     nodes: &'a [Node],
     depth: usize,
-    met: &'a mut NodeSet,
+    met: &'a mut NodeSet<'work>,
     /// The node met last on each level, 0 for none; the levels count from 1.
     last_met: [u32; 9],
     first_leaf: u32,
@@ -49,7 +49,7 @@ pub fn walk(nodes: &[Node], header: &Header, met: &mut NodeSet) -> Result<LeafTo
     })
 }
 
-impl Walk<'_> {
+impl Walk<'_, '_> {
     fn visit(&mut self, number: u32, position: &Position) -> Result<(), Verdict> {
         // Node 0 and the map chain have been met before the tree, so they fall out here too.
         let new = (number as usize) < self.nodes.len() && self.met.insert(number);

@@ -1,8 +1,11 @@
 //! Any bytes at all get an answer, and only images that keep the rules are called sound.
 
+mod lent;
+
 use images::by_hand::three_levels_by_hand;
 use images::{bench, build, Plan, Rng};
-use reference::{check, leaf_records, listing, lookup, salvage, Answer, Place, Verdict};
+use lent::{check, lookup};
+use reference::{leaf_records, listing, salvage, Answer, Place, Verdict};
 
 /// Asks everything; what is called sound must also behave as sound.
 fn ask_everything(image: &[u8]) {

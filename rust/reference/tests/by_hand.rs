@@ -1,9 +1,12 @@
 //! The tree laid out by hand: changes whose verdicts are worked out from its picture.
 
+mod lent;
+
 use images::by_hand::{file_key, three_levels_by_hand};
 use images::spoil::Patch::{self, *};
 use images::Key;
-use reference::{check, Place, Verdict};
+use lent::check;
+use reference::{Place, Verdict};
 
 const HEADER_MAP: usize = 0xF8;
 const MAP_NODE: usize = 10;

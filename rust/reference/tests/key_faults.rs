@@ -1,9 +1,12 @@
 //! Which record of a node a key fault is put down to, in full leaves and in a full root.
 
+mod lent;
+
 use images::bench::{index_with, leaf_with};
 use images::node::*;
 use images::Key;
-use reference::{check, Place, Verdict};
+use lent::check;
+use reference::{Place, Verdict};
 
 const LAST: usize = 21;
 

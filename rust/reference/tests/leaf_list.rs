@@ -1,9 +1,12 @@
 //! Where the records of the leaf list stand, and that lookups give the same places.
 
+mod lent;
+
 use images::bench::{e1, l1, leaf_with, two_leaves};
 use images::by_hand::three_levels_by_hand;
 use images::samples;
-use reference::{leaf_records, lookup, Answer, Place};
+use lent::lookup;
+use reference::{leaf_records, Answer, Place};
 
 /// Node, record number and start of every record of the list.
 fn places(image: &[u8]) -> Vec<(u32, u32, u32)> {

@@ -1,7 +1,10 @@
 //! Lookups of every key and of gaps, against a linear search of the leaf list.
 
+mod lent;
+
 use images::{bench, build, samples, Built, Key, Plan, Record, Rng};
-use reference::{leaf_records, lookup, Answer, LeafRecord, Lookup, Place};
+use lent::lookup;
+use reference::{leaf_records, Answer, LeafRecord, Lookup, Place};
 
 fn long(image: &[u8], at: usize) -> u32 {
     image[at..at + 4].iter().fold(0, |value, &byte| value << 8 | u32::from(byte))
@@ -179,14 +182,16 @@ fn few_keys_of_the_samples_are_compared() {
 
 #[test]
 fn some_keys_of_the_largest() {
-    let built = samples::largest();
-    let list = leaf_records(&built.image);
-    let keys = keys_worth_asking(&built);
-    let mut rng = Rng::new(12);
-    for _ in 0..500 {
-        let asked = keys[rng.index(keys.len())];
-        assert_right(&built.image, &list, asked);
-        assert_few_compared(&built.image, asked);
+    // Every lookup checks all nodes, so not many are asked of the most nodes.
+    for (built, count) in [(samples::largest_of(6_000), 500), (samples::largest(), 25)] {
+        let list = leaf_records(&built.image);
+        let keys = keys_worth_asking(&built);
+        let mut rng = Rng::new(12);
+        for _ in 0..count {
+            let asked = keys[rng.index(keys.len())];
+            assert_right(&built.image, &list, asked);
+            assert_few_compared(&built.image, asked);
+        }
     }
 }
 

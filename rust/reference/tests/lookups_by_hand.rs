@@ -1,7 +1,10 @@
 //! The tree laid out by hand: lookups whose answers, paths and counts are worked out from its picture.
 
+mod lent;
+
 use images::by_hand::three_levels_by_hand;
-use reference::{lookup, Answer, Place};
+use lent::lookup;
+use reference::{Answer, Place};
 
 fn found_at(node: u32, offset: u32) -> Answer {
     Answer::Found { place: Place { node, offset } }

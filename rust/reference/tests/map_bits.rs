@@ -1,8 +1,11 @@
 //! Which byte a wrong map bit is put down to, along chains whose node numbers do not ascend.
 
+mod lent;
+
 use images::bench::empty_tree;
 use images::node::{put32, put_node, write_map, NODE_SIZE};
-use reference::{check, Place, Verdict};
+use lent::check;
+use reference::{Place, Verdict};
 
 /// The map nodes in the order of the chain.
 const CHAIN: [u32; 3] = [3, 1, 2];
@@ -97,4 +100,25 @@ fn bits_of_nodes_in_a_map_node() {
         flip(&mut image, byte, bit);
         assert_eq!(check(&image), wrong_at(byte), "bit {bit} of {byte:?}");
     }
+}
+
+#[test]
+fn bits_of_the_last_nodes_there_can_be() {
+    // The header and 16 map nodes have 65,280 bits, so the 17th map node, 65,519, has the last 256.
+    let chain: Vec<u32> = (65_519..=65_535).rev().collect();
+    let mut sound = with_chain(65_536, &chain);
+    // The bits of the map nodes themselves: the last of byte 29, and all of bytes 30 and 31.
+    let last = 65_519 * 512 + 14;
+    sound[last + 29..last + 32].copy_from_slice(&[0x01, 0xFF, 0xFF]);
+    assert_eq!(check(&sound).number, 0);
+    // Bits 65,279 in the 16th map node, 65,280 and 65,535 in the 17th, and one beyond the last node.
+    let wrong = [((65_520, 507), 7), ((65_519, 14), 0), ((65_519, 45), 7), ((65_519, 46), 0)];
+    for (byte, bit) in wrong {
+        let mut image = sound.clone();
+        flip(&mut image, byte, bit);
+        assert_eq!(check(&image), wrong_at(byte), "bit {bit} of {byte:?}");
+    }
+    // Without the 17th there are 256 bits too few.
+    let place = Place { node: 65_520, offset: 0 };
+    assert_eq!(check(&with_chain(65_536, &chain[..16])), Verdict { number: 3, place });
 }

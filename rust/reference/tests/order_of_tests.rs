@@ -1,8 +1,11 @@
 //! Two faults at once: the answer is the one that the order of tests comes to first.
 
+mod lent;
+
 use images::spoil::{spoilings, Spoiling};
 use images::{build, Built, Plan};
-use reference::{check, Place, Verdict};
+use lent::check;
+use reference::{Place, Verdict};
 
 /// Whether the second fault leaves the first one standing.
 fn independent(a: &Spoiling, b: &Spoiling) -> bool {

@@ -99,7 +99,7 @@ fn spoiled_trees() {
     for spoiling in spoilings(&built) {
         let mut image = built.image.clone();
         spoiling.apply(&mut image);
-        if image.len() <= 3_072_000 {
+        if image.len() <= 33_554_432 {
             assert_right(&image);
         }
     }
@@ -153,10 +153,14 @@ fn lengths() {
     image.truncate(1_023);
     assert_eq!(salvage(&image, 16, 0x00, 5).answer, SalvageAnswer::NotSeen);
     assert_eq!(salvage(&[], 16, 0x00, 5).answer, SalvageAnswer::NotSeen);
-    // 3,072,000 bytes are taken, one more is not.
+    // 33,554,432 bytes are taken, one more is not.
     let mut long = bench::l1();
-    long.resize(3_072_000, 0);
+    long.resize(33_554_432, 0);
     assert_eq!(salvage(&long, 16, 0x00, 5), seen);
+    // The last node there can be is looked at as well.
+    long.copy_within(512..1_024, 65_535 * 512);
+    long[512..1_024].fill(0);
+    assert_eq!(salvage(&long, 16, 0x00, 5).answer, seen_at(65_535, 14));
     long.push(0);
     assert_eq!(salvage(&long, 16, 0x00, 5), refused(1));
     assert_eq!(salvage(&long, 16, 0x01, 5), refused(11));

@@ -1,7 +1,10 @@
 //! Generated sound trees are sound, and hold what was built into them.
 
+mod lent;
+
 use images::{build, samples, Built, Plan};
-use reference::{check, leaf_records, Verdict};
+use lent::check;
+use reference::{leaf_records, Verdict};
 use std::ops::{Range, RangeInclusive};
 
 fn assert_sound(built: &Built, name: &str) {
@@ -77,31 +80,61 @@ fn samples_are_sound() {
     assert_sound(&samples::three_level(), "three_level");
     assert_sound(&samples::longest_listed(), "longest_listed");
     assert_sound(&samples::three_level_large(), "three_level_large");
+    assert_sound(&samples::needed_map_nodes(), "needed_map_nodes");
+}
+
+/// The largest tree has these levels, root first, and no node is left over.
+fn assert_largest(built: &Built, total: u32, map_nodes: usize, level_sizes: &[usize]) {
+    let name = format!("largest of {total}");
+    assert_eq!((built.total(), built.map_chain.len()), (total, map_nodes));
+    let sizes: Vec<usize> = built.levels.iter().map(|level| level.numbers.len()).collect();
+    assert_eq!(sizes, level_sizes, "{name}");
+    assert_eq!(built.records.len(), 22 * level_sizes.last().unwrap_or(&0), "{name}");
+    assert!(built.free.is_empty(), "{name}");
+    assert_sound(built, &name);
 }
 
 #[test]
-fn largest_has_6000_nodes_and_128150_records() {
+fn largest_trees_have_the_levels_by_hand() {
+    assert_largest(&samples::largest_of(1), 1, 0, &[]);
+    // 1 + 95 + 3 + 1 nodes.
+    assert_largest(&samples::largest_of(100), 100, 0, &[1, 3, 95]);
+    // 1 + 1 + 5,825 + 167 + 5 + 1 nodes.
+    assert_largest(&samples::largest_of(6_000), 6_000, 1, &[1, 5, 167, 5_825]);
+}
+
+#[test]
+fn largest_has_65536_nodes_and_1400168_records() {
     let built = samples::largest();
-    assert_eq!(built.total(), 6_000);
-    assert_eq!(built.map_chain.len(), 1);
-    assert_eq!(built.records.len(), 5_825 * 22);
-    assert_sound(&built, "largest");
+    // 1 + 17 + 63,644 + 1,819 + 52 + 2 + 1 nodes.
+    assert_largest(&built, 65_536, 17, &[1, 2, 52, 1_819, 63_644]);
+    assert_eq!(built.records.len(), 1_400_168);
+}
+
+#[test]
+fn nodes_that_no_largest_tree_can_use_are_free() {
+    // Two leaves need a root: the header, one leaf and one node left over.
+    let built = samples::largest_of(3);
+    assert_eq!((built.total(), built.depth(), built.free.len()), (3, 1, 1));
+    assert_sound(&built, "largest of 3");
 }
 
 #[test]
 fn a_map_node_that_is_just_needed() {
-    // 2,047 nodes besides the header fill its map; one free node more takes a map node.
-    for (free_nodes, map_nodes) in [(2_047, 0), (2_048, 1)] {
-        let plan = Plan { free_nodes, ..Plan::tidy(8, &[]) };
-        let built = build(&plan);
-        assert_eq!(built.map_chain.len(), map_nodes);
-        assert_sound(&built, &format!("{free_nodes} free"));
+    // Beside the header and the map nodes there are bits for so many; one more takes a map node.
+    for (most, map_nodes) in [(2_048 - 1, 0), (6_000 - 2, 1), (9_952 - 3, 2), (65_280 - 17, 16)] {
+        for more in [0, 1] {
+            let free_nodes = most + more;
+            let built = build(&Plan { free_nodes, ..Plan::tidy(8, &[]) });
+            assert_eq!(built.map_chain.len(), map_nodes + more);
+            assert_sound(&built, &format!("{free_nodes} free"));
+        }
     }
 }
 
 #[test]
 fn all_but_the_header_may_be_map_nodes() {
-    let plan = Plan { map_nodes: 5_999, ..Plan::tidy(9, &[]) };
+    let plan = Plan { map_nodes: 65_535, ..Plan::tidy(9, &[]) };
     assert_sound(&build(&plan), "only map nodes");
 }
 

@@ -1,8 +1,11 @@
 //! Spoiled images: each gives its number, and the place that the table has for it.
 
+mod lent;
+
 use images::spoil::{by_number, spoilings, Patch, Spoiling};
 use images::{build, samples, Built, Key, Plan};
-use reference::{check, lookup, Answer, Lookup, Place, Verdict};
+use lent::{check, lookup};
+use reference::{Answer, Lookup, Place, Verdict};
 use std::collections::BTreeSet;
 
 /// The place by the table, worked out from what was changed and where.
@@ -236,22 +239,29 @@ fn pointers_and_first_keys_differ_both_ways_on_every_level() {
 
 #[test]
 fn a_large_tree_spoiled_here_and_there() {
-    let built = samples::largest();
-    for number in 1..=10 {
-        let known = by_number(&built, number);
-        let step = known.len().div_ceil(40);
-        for spoiling in known.iter().step_by(step).chain(known.last()) {
-            assert_refused(&built, spoiling);
+    for built in [samples::largest_of(6_000), samples::needed_map_nodes()] {
+        for number in 1..=10 {
+            let known = by_number(&built, number);
+            let step = known.len().div_ceil(40);
+            for spoiling in known.iter().step_by(step).chain(known.last()) {
+                assert_refused(&built, spoiling);
+            }
         }
     }
 }
 
 #[test]
 fn a_needed_map_node_cannot_be_cut_off() {
-    let built = samples::three_level_large();
-    let known = by_number(&built, 3);
-    let cut = known.iter().find(|spoiling| spoiling.what == "map_chain_cut");
-    let cut = cut.expect("6,000 nodes need the map node");
-    assert_eq!((cut.number, cut.place.node, cut.place.offset), (3, 0, 0));
-    assert_refused(&built, cut);
+    let sizes = [(samples::three_level_large(), 1), (samples::needed_map_nodes(), 3)];
+    for (built, map_nodes) in sizes.into_iter().chain([(samples::largest(), 17)]) {
+        let known = by_number(&built, 3);
+        let cuts: Vec<_> = known.iter().filter(|known| known.what == "map_chain_cut").collect();
+        // The header's link to the first map node, then that of every map node but the last.
+        let before_last = &built.map_chain[..map_nodes - 1];
+        let at_fault: Vec<u32> = cuts.iter().map(|cut| cut.place.node).collect();
+        assert_eq!(at_fault, [&[0], before_last].concat());
+        for cut in cuts {
+            assert_refused(&built, cut);
+        }
+    }
 }

@@ -17,14 +17,19 @@ lookup-numbers-requires c κs = search needs
 found-data-requires : tie.Need-found-data-requires
 found-data-requires c κs = search needs
 
+same-length : tie.Need-same-length
+same-length c = search needs
+
 returns : tie.Need-returns
 returns c =
-    let l = c .before .before in
-    let img = l .before .before .args .image .now in (
-      c .before .lookup-numbers .ensures ∙ ap lookupNumbers (l .lookup .ensures .0),
-      c .found-data .ensures ∙ ap (λ (r : Lookup). dataBytes img (foundPart (r .answer))) (l .lookup .ensures .0),
+    let l = c .before .before .before .before in
+    let e = l .lookup .ensures in
+    let img = l .before .before .before .before .args .image .now in (
+      c .before .lookup-numbers .ensures ∙ ap lookupNumbers (e .0),
+      (c .found-data .ensures ∙ ap (λ (r : Lookup). dataBytes img (foundPart (r .answer))) (e .0), rw (e .0) at (e .1 .1)),
     )
 
 pub hfs-lookup-spec : {M : Type 1} → statement M
 hfs-lookup-spec =
-    tie.close (tie.spec lookup-requires lookup-numbers-requires found-data-requires returns)
+    tie.close
+    (tie.spec lookup-requires lookup-numbers-requires found-data-requires same-length returns)

@@ -1,15 +1,18 @@
 -- `lookup` meets its contract. Assumes nothing.
-use Rattle.btree.specs.Search.{refused, descentOf}
-use Rattle.extents.proofs.Demands.{lookup-unlawful, lookup-refused, lookup-answers, answered}
+use mathlib.Core.Path.{refl, sym, ap, _∙_}
+use mathlib.Core.List.{List·Memᴰ·head}
 use native.Mathlib.Omega.{arith}
-use mathlib.Core.Path.{sym, ap, _∙_}
 use borrow.Author.Tests.{not-true, not-false}
-use Rattle.btree.proofs.Decisions.{said, unsaid}
-use Rattle.btree.specs.Header.{viewOf}
 use Rattle.btree.specs.declared.Verdict.{Verdict}
+use Rattle.btree.specs.Header.{viewOf}
+use Rattle.btree.specs.Search.{refused, descentOf}
+use Rattle.btree.proofs.Decisions.{said, unsaid}
+use Rattle.btree.proofs.Work.{left-untouched, leaves}
+use Rattle.hfs.specs.Hfs.{hfs}
 use Rattle.formats.specs.Key.{asked, Lawful, decLawful}
-use Rattle.formats.specs.Format.{view}
+use Rattle.formats.specs.Format.{format, view}
 use Rattle.formats.proofs.Order.{InRange, Bytes}
+use Rattle.extents.proofs.Demands.{lookup-unlawful, lookup-refused, lookup-answers, refuses, descends}
 use borrow.Author.Needs.{needs}
 use Rattle.extents.proofs.lookup.Statement.{statement}
 use Rattle.extents.proofs.lookup.Tie as tie
@@ -20,7 +23,7 @@ bytes c i = omega (arith, c .shared-slice-known .given i)
 asked-inRange : (c : tie.Start) → InRange (asked (c .args .file) (c .args .fork) (c .args .start))
 asked-inRange c = record { fork = omega arith; start = omega arith }
 
-lawful : (c : tie.Else1) → Lawful (c .before .before .before .args .fork)
+lawful : (c : tie.Else1) → Lawful (c .before .before .before .before .args .fork)
 lawful c = said (decLawful _) (sym (c .before .is-lawful .ensures) ∙ not-false _ (c .if1 .left))
 
 is-lawful-requires : tie.Need-is-lawful-requires
@@ -33,12 +36,15 @@ refusal-requires : tie.Need-refusal-requires
 refusal-requires c κs = search needs
 
 returns : tie.Need-returns
-returns c = let t = c .before .before in
+returns c =
+    let t = c .before .before in
     let w = t .before in
-    let s = w .before .before in
-    answered (s .args .image .now) (bytes (w .before)) _ (asked-inRange s) _
-    (c .refusal .ensures ∙ ap (λ (x : Verdict). refused (x .number) (x .place)) (c .before .at-node .ensures)
-    ∙ sym (lookup-unlawful _ (bytes (w .before)) _ (asked-inRange s) (unsaid (decLawful _) (sym (w .is-lawful .ensures) ∙ not-true _ (t .if1 .taken)))))
+    let s = w .before .before .before in
+    let b = bytes (w .before .before) in
+    let e = c .refusal .ensures ∙ ap (λ (x : Verdict). refused (x .number) (x .place)) (c .before .at-node .ensures) in
+    refuses (s .args .image .now) b _ (asked-inRange s) (s .args .work .now) _ _
+    (e ∙ sym (lookup-unlawful _ b _ (asked-inRange s) _ (unsaid (decLawful _) (sym (w .is-lawful .ensures) ∙ not-true _ (t .if1 .taken))))) 11 _ e
+    (leaves hfs _ format 11 _ _ (sym (left-untouched hfs _ format 11 _ (List·Memᴰ·head refl))))
 
 check-requires : tie.Need-check-requires
 check-requires c κs = search needs
@@ -46,32 +52,42 @@ check-requires c κs = search needs
 refusal-requires-2 : tie.Need-refusal-requires-2
 refusal-requires-2 c κs = search needs
 
+same-length : tie.Need-same-length
+same-length c = search needs
+
 returns-2 : tie.Need-returns-2
-returns-2 c = let t = c .before .before .before in
-    let w = t .before .before in
-    let s = w .before .before in
-    let b = bytes (w .before) in
+returns-2 c =
+    let t = c .before .before .before .before .before in
+    let x = t .before .before in
+    let s = x .before .before .before .before in
+    let b = bytes (x .before .before .before) in
     let e = t .check .ensures .0 in
-    answered (s .args .image .now) b _ (asked-inRange s) _
+    refuses (s .args .image .now) b _ (asked-inRange s) (s .args .work .now) _ _
     (c .refusal2 .ensures ∙ ap (λ (x : Verdict). refused (x .number) (x .place)) e
-    ∙ sym (lookup-refused _ b _ (asked-inRange s) (lawful (t .before)) (λ z. c .before .if2 .taken (ap (λ (x : Verdict). x .number) e ∙ z))))
+    ∙ sym (lookup-refused _ b _ (asked-inRange s) _ (lawful x) (λ z. c .before .if2 .taken (ap (λ (x : Verdict). x .number) e ∙ z))))
+    _ _ (c .refusal2 .ensures) (t .check .ensures .1 .1)
 
 pack-requires : tie.Need-pack-requires
 pack-requires c κs = search needs
 
 descend-requires : tie.Need-descend-requires
 unfolding viewOf
-descend-requires c κs = let s = c .before .before .before .check .ensures .1 .0 (c .before .if2 .left) in record { tree = s .tree; shallow = s .header .depthInRange }
+descend-requires c κs = let n = c .before in let s = n .before .before .before .before .check .ensures .1 .0 .sound .0 (n .if2 .left) .0 in record { tree = s .tree; shallow = s .header .depthInRange }
+
+same-length-2 : tie.Need-same-length-2
+same-length-2 c = search needs
 
 returns-3 : tie.Need-returns-3
-returns-3 c = let n = c .before .before in
-    let t = n .before .before in
-    let w = t .before .before in
-    let s = w .before .before in
-    let b = bytes (w .before) in
-    answered (s .args .image .now) b _ (asked-inRange s) _
-    (c .descend .ensures ∙ ap (descentOf (view (s .args .image .now))) (c .before .pack .ensures .0)
-    ∙ sym (lookup-answers _ b _ (asked-inRange s) (lawful (t .before)) (sym (ap (λ (x : Verdict). x .number) (t .check .ensures .0)) ∙ n .if2 .left)))
+returns-3 c =
+    let n = c .before .before in
+    let t = n .before .before .before .before in
+    let x = t .before .before in
+    let s = x .before .before .before .before in
+    let b = bytes (x .before .before .before) in
+    let d = c .descend .ensures ∙ ap (descentOf (view (s .args .image .now))) (c .before .pack .ensures .0) in
+    descends (s .args .image .now) b _ (asked-inRange s) (s .args .work .now) _ _
+    (d ∙ sym (lookup-answers _ b _ (asked-inRange s) _ (lawful x) (sym (ap (λ (x : Verdict). x .number) (t .check .ensures .0)) ∙ n .if2 .left)))
+    d (rw (n .if2 .left) at (t .check .ensures .1 .1))
 
 pub lookup-spec : {M : Type 1} → statement M
 lookup-spec =
@@ -83,7 +99,9 @@ lookup-spec =
     returns
     check-requires
     refusal-requires-2
+    same-length
     returns-2
     pack-requires
     descend-requires
+    same-length-2
     returns-3)

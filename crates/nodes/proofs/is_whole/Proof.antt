@@ -3,6 +3,7 @@ use mathlib.Core.Path.{_≡_, sym, _∙_}
 use mathlib.Core.Bool.{true}
 use borrow.Author.Tests.{not-true, not-false}
 use Rattle.btree.specs.Decide.{says}
+use Rattle.btree.proofs.Decisions.{said}
 use Rattle.btree.proofs.Hits.{hit-at, hit-nowhere}
 use Rattle.formats.specs.Format.{leafKind, decRecords}
 use Rattle.nodes.proofs.Whole.{whole-records, whole-yes, whole-no}
@@ -20,7 +21,9 @@ returns : tie.Need-returns
 returns c = sym (whole-records _ _ (sym (c .before .records-right .ensures) ∙ not-true _ (c .if1 .taken)))
 
 wrong-key-requires : tie.Need-wrong-key-requires
-wrong-key-requires c κs = search needs
+wrong-key-requires c κs =
+    let r = said (decRecords _ _ _) (right c) in
+    record { node = c .before .before .before .pre; few = rw (r .isKind) (r .few) }
 
 enum-told : tie.Need-enum-told
 enum-told c = search needs

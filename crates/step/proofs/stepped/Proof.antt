@@ -1,9 +1,12 @@
--- `visit::stepped` meets its contract. Assumes nothing.
+-- `stepped` meets its contract. Assumes nothing.
+use Prim.Native.Nat.{_/_, _<_}
 use native.Mathlib.Omega.{arith}
+use mathlib.Core.Bool.{true}
 use mathlib.Core.Path.{_≡_, sym, ap, _∙_}
 use lib.ListN.{length}
 use Rattle.formats.specs.Format.{view}
-use Rattle.step.specs.State.{freshIn, lastAt, entry}
+use Rattle.nodes.specs.Inside.{NodeIn}
+use Rattle.step.specs.State.{state, freshIn, lastAt, entry}
 use Rattle.btree.proofs.Clean.{test-zero}
 use Rattle.btree.specs.Walk.{test}
 use Rattle.btree.specs.Header.{viewOf}
@@ -16,24 +19,37 @@ use borrow.Author.Needs.{needs}
 use Rattle.step.proofs.stepped.Statement.{statement}
 use Rattle.step.proofs.stepped.Tie as tie
 
-visited-long : (c : tie.Start) → length (c .args .t2 .visited) ≡ 750
-visited-long c = search needs
-
 -- what the tests find, in terms of the walk
-tests : (c : tie.After-tested) → let a = c .before .before .before .before .before .before .before .before .args in let v = view (a .image .now) in
-    c .tested .result ≡ test v (freshIn (v .total) (a .t2 .visited) (a .node)) (lastAt (a .t2) (a .level)) (entry (a .node) (a .from) (a .level) (a .low) (a .high))
+tests : (c : tie.After-tested) → let a = c .before .before .before .before .before .before .before .args in let v = view (a .image .now) in
+    c .tested .result ≡ test v (freshIn (v .total) (a .bits .now) (a .node)) (lastAt (a .t3) (a .level)) (entry (a .node) (a .from) (a .level) (a .low) (a .high))
 unfolding viewOf
 tests c = c .tested .ensures ∙ rw (c .before .before .is-fresh .ensures, c .before .before .before .be32 .ensures)
 
 -- a node that passed is fresh
-fresh : (c : tie.Else1) → let a = c .before .before .before .before .before .before .before .before .before .before .args in
-    Free (view (a .image .now) .total) (a .t2 .visited) (a .node)
+fresh : (c : tie.Else1) → let a = c .before .before .before .before .before .before .before .before .before .args in
+    Free (view (a .image .now) .total) (a .bits .now) (a .node)
 fresh c =
-    let a = c .before .before .before .before .before .before .before .before .before .before .args in
+    let a = c .before .before .before .before .before .before .before .before .before .args in
     let v = view (a .image .now) in
-    fresh-free (v .total) (a .t2 .visited) (a .node)
-    (test-zero v (freshIn (v .total) (a .t2 .visited) (a .node)) (lastAt (a .t2) (a .level)) (entry (a .node) (a .from) (a .level) (a .low) (a .high))
+    fresh-free (v .total) (a .bits .now) (a .node)
+    (test-zero v (freshIn (v .total) (a .bits .now) (a .node)) (lastAt (a .t3) (a .level)) (entry (a .node) (a .from) (a .level) (a .low) (a .high))
     (sym (ap (λ (t : Verdict). t .number) (tests (c .before .before))) ∙ c .if1 .left) .0)
+
+-- it has a bit
+room : (c : tie.Else1) → let a = c .before .before .before .before .before .before .before .before .before .args in a .node / 8 < length (a .bits .now)
+room c = omega (arith, fresh c .range, c .before .before .before .before .before .before .before .before .before .pre .room)
+
+low : (c : tie.Else1) → c .before .before .before .before .before .before .before .before .before .args .node < 65536
+low c = omega (arith, fresh c .range, c .before .before .before .before .before .before .before .before .before .pre .few)
+
+-- the image has a fresh node
+inside : (c : tie.After-is-fresh) → c .is-fresh .result ≡ true → let a = c .before .before .before .before .before .args in NodeIn (a .image .now) (a .node)
+unfolding viewOf
+inside c e =
+    let s = c .before .before .before .before .before in
+    let t = c .before .be32 in
+    let q = fresh-free (t .result) (s .args .bits .now) (s .args .node) (sym (c .is-fresh .ensures) ∙ e) in
+    omega (arith, q .range, s .pre .whole, t .ensures)
 
 be32-requires : tie.Need-be32-requires
 be32-requires c κs = search needs
@@ -48,48 +64,65 @@ element-copy-out-p : tie.Need-element-copy-out-p
 element-copy-out-p c = search needs
 
 tested-requires : tie.Need-tested-requires
-tested-requires c κs = omega (arith, c .before .before .before .before .before .before .before .pre)
+tested-requires c κs = (inside (c .before), omega (arith, c .before .before .before .before .before .before .pre))
 
 stopped-at-requires : tie.Need-stopped-at-requires
 stopped-at-requires c κs = search needs
 
+same-length : tie.Need-same-length
+same-length c = search needs
+
 returns : tie.Need-returns
-returns c = let t = c .before .before .before in
-    let s = t .before .before .before .before .before .before .before .before in
+returns c =
+    let t = c .before .before .before in
+    let s = t .before .before .before .before .before .before .before in
     let a = s .args in
     record {
       is =
-          c .stopped-at .ensures
-          ∙ sym (step-stops (view (a .image .now)) (a .t2) (entry (a .node) (a .from) (a .level) (a .low) (a .high)) (t .tested .result) (s .pre .clear) (tests t) (c .before .if1 .taken));
-      small = rw (c .stopped-at .ensures) (small-stopped _ _ (s .pre .small));
+          rw (c .stopped-at .ensures)
+          (sym (step-stops (view (a .image .now)) (state (a .bits .now) (a .t3)) (entry (a .node) (a .from) (a .level) (a .low) (a .high)) (t .tested .result) (s .pre .clear) (tests t) (c .before .if1 .taken)));
+      small = rw (c .stopped-at .ensures) (small-stopped _ _ _ (s .pre .small));
     }
 
 count-of-requires : tie.Need-count-of-requires
 count-of-requires c κs = search needs
 
+mark-requires : tie.Need-mark-requires
+mark-requires c κs = search needs
+
 kept-at-requires : tie.Need-kept-at-requires
-kept-at-requires c κs = let p = c .before .before .before .before .before .before .before .before .before .before .before .pre in
-    let f = fresh (c .before) in
-    record { inRange = omega (arith, f .range, p .few); level = omega (arith, p); records = records-fit _ (p .small); nodes = nodes-fit _ (p .small); count = c .count-of .ensures .1 }
+kept-at-requires c κs =
+    let n = c .before .before .before .before .before in
+    let s = n .before .before .before .before .before .before .before .before .before in
+    let k = c .before .before .before .before .count-of .ensures in
+    record {
+      level = omega (arith, s .pre);
+      records = records-fit (s .args .bits .now) (s .args .t3) (s .args .node) (low n) (room n) (fresh n .unmarked) _ (k .1) (s .pre .small);
+      nodes = nodes-fit _ _ (s .pre .small);
+    }
+
+same-length-2 : tie.Need-same-length-2
+same-length-2 c = search needs
 
 returns-2 : tie.Need-returns-2
 unfolding viewOf
-returns-2 c = let n = c .before .before in
+returns-2 c =
+    let n = c .before .before .before .before .before .before in
     let t = n .before .before in
-    let s = t .before .before .before .before .before .before .before .before in
+    let s = t .before .before .before .before .before .before .before in
     let a = s .args in
     let p = s .pre in
     let v = view (a .image .now) in
-    let f = fresh n in
+    let k = c .before .before .before .before .before .count-of .ensures in
+    let m = c .before .before .before .mark .ensures in
     let leaf = leaf-test (a .level) (a .below) (v .depth) (p .levels) in
     record {
       is =
-          c .kept-at .ensures
-          ∙ rw (leaf, c .before .count-of .ensures .0)
-          (sym (step-keeps v (a .t2) (entry (a .node) (a .from) (a .level) (a .low) (a .high)) (t .tested .result) (p .clear) (tests t) (n .if1 .left)));
+          rw (c .kept-at .ensures, m, leaf, k .0)
+          (sym (step-keeps v (state (a .bits .now) (a .t3)) (entry (a .node) (a .from) (a .level) (a .low) (a .high)) (t .tested .result) (p .clear) (tests t) (n .if1 .left)));
       small =
-          rw (c .kept-at .ensures, leaf)
-          (small-kept (a .t2) (a .node) (a .level) _ _ (omega (arith, f .range, p .few)) (visited-long s) (f .unmarked) (c .before .count-of .ensures .1) (p .small));
+          rw (c .kept-at .ensures, m, leaf)
+          (small-kept (a .bits .now) (a .t3) (a .node) (low n) (room n) (fresh n .unmarked) _ (k .1) (p .small) (a .level) _);
     }
 
 pub stepped-spec : {M : Type 1} → statement M
@@ -102,7 +135,10 @@ stepped-spec =
     element-copy-out-p
     tested-requires
     stopped-at-requires
+    same-length
     returns
     count-of-requires
+    mark-requires
     kept-at-requires
+    same-length-2
     returns-2)

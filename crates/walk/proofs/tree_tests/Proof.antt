@@ -1,6 +1,6 @@
 -- `tree_tests` meets its contract. Assumes nothing.
 use Rattle.step.specs.declared.state.Walk.{Walk}
-use lib.ListN.{length, replicate}
+use lib.ListN.{replicate}
 use native.Mathlib.Omega.{arith}
 use Prim.Native.Nat.{_-_}
 use mathlib.Core.List.{[]}
@@ -11,6 +11,7 @@ use Rattle.btree.specs.Walk.{entries}
 use Rattle.btree.specs.Header.{viewOf}
 use Rattle.walk.specs.Visit.{steps}
 use Rattle.walk.proofs.Agree.{Agrees, tree-none, found-fault, found-none, found-agree}
+use Rattle.step.specs.State.{state}
 use Rattle.formats.specs.Format.{view}
 use Rattle.nodes.proofs.Bounds.{bound-none}
 use Rattle.walk.proofs.Finish.{begun, ended, faulted, no-levels}
@@ -18,21 +19,18 @@ use borrow.Author.Needs.{needs}
 use Rattle.walk.proofs.tree_tests.Statement.{statement}
 use Rattle.walk.proofs.tree_tests.Tie as tie
 
-long : (c : tie.Start) → length (c .args .visited .bits) ≡ 750
-long c = search needs
-
--- the state that the walk begins with
+-- what goes by value when the walk begins
 abbrev start : tie.Start → Walk
-start c = record { visited = c .args .visited .bits; last = replicate 8 0; records = 0; first = 0; nodes = c .args .nodes; number = 0; place = imageStart }
+start c = record { last = replicate 8 0; records = 0; first = 0; nodes = c .args .nodes; number = 0; place = imageStart }
 
-began : (c : tie.Start) → Agrees (view (c .args .image .now)) (start c) []
-began c = begun (view (c .args .image .now)) (start c) (long c) (c .pre .marks) (c .pre .count) refl refl refl refl
+began : (c : tie.Start) → Agrees (view (c .args .image .now)) (state (c .args .bits .now) (start c)) []
+began c = begun (view (c .args .image .now)) (c .args .bits .now) (start c) (c .pre .room) (c .pre .marks) (c .pre .count) refl refl refl refl
 
 -- what the visit of the root gives
-walked : (c : tie.After-visit) → let s = c .before .before .before .before .before .before in let v = view (s .args .image .now) in
-    c .visit .result ≡ steps v (start s) (entries v (v .depth - 1) 0 rootField none none (v .root))
+walked : (c : tie.After-visit) → let s = c .before .before .before .before .before .before .before in let v = view (s .args .image .now) in
+    state (c .visit .last .1 .0) (c .visit .result) ≡ steps v (state (s .args .bits .now) (start s)) (entries v (v .depth - 1) 0 rootField none none (v .root))
 unfolding viewOf
-walked c = c .visit .ensures .is ∙ rw (c .before .before .before .be16 .ensures .0, c .before .be32 .ensures, bound-none)
+walked c = c .visit .ensures .is ∙ rw (c .before .before .before .before .be16 .ensures .0, c .before .before .be32 .ensures, bound-none)
 
 deep : (c : tie.Else1) → view (c .before .before .before .before .args .image .now) .depth ≡ 0 → ⊥
 unfolding viewOf
@@ -49,11 +47,12 @@ stopped-at-requires c κs = search needs
 
 returns : tie.Need-returns
 unfolding viewOf
-returns c = let s = c .before .before .before .before .before .before in
+returns c =
+    let s = c .before .before .before .before .before .before in
     let v = view (s .args .image .now) in
     let e = sym (c .before .before .before .be16 .ensures .0) ∙ c .before .before .if1 .taken in
     let a = began s in
-    rw (c .stopped-at .ensures) (ended (s .args .image .now) _ _ (no-levels v _ e a) (c .before .closing-tests .ensures ∙ tree-none v (s .pre .few) (s .pre .shallow) _ a e))
+    rw (c .stopped-at .ensures) (ended (s .args .image .now) (s .args .bits .now) _ _ (no-levels v _ e a) (c .before .closing-tests .ensures ∙ tree-none v (s .pre .shallow) _ a e))
 
 be32-requires : tie.Need-be32-requires
 be32-requires c κs = search needs
@@ -63,15 +62,21 @@ sub-visit c = search needs
 
 visit-requires : tie.Need-visit-requires
 unfolding viewOf
-visit-requires c κs = let s = c .before .before .before in
-    record { few = s .before .before .pre .few; shallow = s .before .before .pre .shallow; levels = omega arith; clear = refl; small = record { records = omega arith; nodes = omega (arith, s .before .before .pre .small) } }
+visit-requires c κs =
+    let p = c .before .before .before .before .before .before .pre in
+    let n = c .before .before .if1 .left in
+    let d = c .before .before .before .be16 .ensures .0 in
+    record { few = p .few; whole = p .whole; room = p .room; shallow = p .shallow; levels = omega arith; clear = refl; small = record { records = omega arith; nodes = omega (arith, p .small) } }
+
+same-length : tie.Need-same-length
+same-length c = search needs
 
 returns-2 : tie.Need-returns-2
-returns-2 c = let x = c .before .before in
-    let s = x .before .before .before .before .before .before in
-    let v = view (s .args .image .now) in
-    faulted (s .args .image .now) _ (c .if2 .taken)
-    (found-fault v (s .pre .few) (s .pre .shallow) (start s) _ (began s) (deep (x .before .before)) (walked x) (c .if2 .taken))
+returns-2 c =
+    let x = c .before .before .before .before in
+    let s = x .before .before .before .before .before .before .before in
+    faulted (s .args .image .now) _ _ (c .if2 .taken)
+    (found-fault (view (s .args .image .now)) (s .pre .shallow) (state (s .args .bits .now) (start s)) (state (x .visit .last .1 .0) (x .visit .result)) (began s) (deep (x .before .before .before)) (walked x) (c .if2 .taken))
 
 closing-tests-requires-2 : tie.Need-closing-tests-requires-2
 closing-tests-requires-2 c κs = search needs
@@ -79,15 +84,20 @@ closing-tests-requires-2 c κs = search needs
 stopped-at-requires-2 : tie.Need-stopped-at-requires-2
 stopped-at-requires-2 c κs = search needs
 
+same-length-2 : tie.Need-same-length-2
+same-length-2 c = search needs
+
 returns-3 : tie.Need-returns-3
-returns-3 c = let x = c .before .before .before .before in
-    let s = x .before .before .before .before .before .before in
+returns-3 c =
+    let x = c .before .before .before .before .before .before in
+    let s = x .before .before .before .before .before .before .before in
     let v = view (s .args .image .now) in
     let n = c .before .before .if2 .left in
+    let y = state (x .visit .last .1 .0) (x .visit .result) in
     rw (c .stopped-at2 .ensures)
-    (ended (s .args .image .now) _ _
-    (found-agree v (s .pre .few) (s .pre .shallow) (start s) _ (began s) (deep (x .before .before)) (walked x) n)
-    (c .before .closing-tests2 .ensures ∙ found-none v (s .pre .few) (s .pre .shallow) (start s) _ (began s) (deep (x .before .before)) (walked x) n))
+    (ended (s .args .image .now) (x .visit .last .1 .0) _ _
+    (found-agree v (s .pre .shallow) (state (s .args .bits .now) (start s)) y (began s) (deep (x .before .before .before)) (walked x) n)
+    (c .before .closing-tests2 .ensures ∙ found-none v (s .pre .shallow) (state (s .args .bits .now) (start s)) y (began s) (deep (x .before .before .before)) (walked x) n))
 
 pub tree-tests-spec : {M : Type 1} → statement M
 tree-tests-spec =
@@ -100,7 +110,9 @@ tree-tests-spec =
     be32-requires
     sub-visit
     visit-requires
+    same-length
     returns-2
     closing-tests-requires-2
     stopped-at-requires-2
+    same-length-2
     returns-3)

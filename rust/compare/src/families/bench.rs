@@ -19,7 +19,7 @@ fn listed() -> Vec<Vec<u8>> {
         Vec::new(),
         vec![0; 511],
         vec![0; 512],
-        vec![0; 3_072_512],
+        vec![0; 33_554_944],
         e1(),
         e1_with_map_byte(0x00),
         e1_with_map_byte(0xC0),

@@ -45,9 +45,9 @@ fn at_node_ends(comparison: &mut Comparison, rng: &mut Rng, built: &Built) {
     }
 }
 
-/// 3,072,000 bytes are the most that are taken.
+/// 33,554,432 bytes are the most that are taken.
 fn around_the_limit(comparison: &mut Comparison) {
-    for len in [3_071_488, 3_071_999, 3_072_000, 3_072_001, 3_072_512] {
+    for len in [33_553_920, 33_554_431, 33_554_432, 33_554_433, 33_554_944] {
         let mut image = l1();
         image.resize(len, 0);
         comparison.ask(&image, keys::always());

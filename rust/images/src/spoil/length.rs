@@ -1,4 +1,4 @@
-//! Number 1: lengths that are no whole number of nodes from 1 to 6,000.
+//! Number 1: lengths that are no whole number of nodes from 1 to 65,536.
 
 use super::{Moment, Patch, Place, Spoiling, Stage};
 use crate::build::Built;
@@ -11,7 +11,7 @@ pub fn spoilings(built: &Built) -> Vec<Spoiling> {
         ("length_511", NODE_SIZE - 1),
         ("length_one_byte_short", len - 1),
         ("length_one_byte_over", len + 1),
-        ("length_6001_nodes", (MOST_NODES + 1) * NODE_SIZE),
+        ("length_65537_nodes", (MOST_NODES + 1) * NODE_SIZE),
     ];
     lengths.map(|(what, len)| resized(what, len)).into()
 }

@@ -93,7 +93,7 @@ impl Spoiling {
         for patch in &self.patches {
             match patch {
                 Patch::Write { at, bytes } => image[*at..*at + bytes.len()].copy_from_slice(bytes),
-                Patch::Resize(len) => image.resize(*len, 0),
+                Patch::Resize(len) => resize(image, *len),
             }
         }
     }
@@ -132,6 +132,15 @@ impl Patch {
             _ => false,
         }
     }
+}
+
+/// Cuts an image off or lengthens it with zeros.
+fn resize(image: &mut Vec<u8>, len: usize) {
+    // Fresh zeros cost nothing until they are read, and a very long image is refused unread.
+    let mut resized = vec![0; len];
+    let kept = len.min(image.len());
+    resized[..kept].copy_from_slice(&image[..kept]);
+    *image = resized;
 }
 
 /// Every spoiling known for the image, in the order of the table.

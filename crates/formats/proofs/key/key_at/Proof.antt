@@ -1,9 +1,18 @@
--- `key::key_at` meets its contract. Assumes nothing.
+-- `key::key_at` meets its contract: near the end of the image each part of the key is read by itself. Assumes nothing.
 use native.Mathlib.Omega.{arith}
 use Rattle.formats.specs.Key.{packed}
 use borrow.Author.Needs.{needs}
 use Rattle.formats.proofs.key.key_at.Statement.{statement}
 use Rattle.formats.proofs.key.key_at.Tie as tie
+
+sub-if2 : tie.Need-sub-if2
+sub-if2 c = search needs
+
+key-in-requires : tie.Need-key-in-requires
+key-in-requires c κs = search needs
+
+returns : tie.Need-returns
+returns c = c .key-in .ensures
 
 add-be32 : tie.Need-add-be32
 add-be32 c = search needs
@@ -44,14 +53,17 @@ add-result c = search needs
 add-result-2 : tie.Need-add-result-2
 add-result-2 c = search needs
 
-returns : tie.Need-returns
+returns-2 : tie.Need-returns-2
 unfolding packed
-returns c = (omega arith, omega arith)
+returns-2 c = (omega arith, omega arith)
 
 pub key-at-spec : {M : Type 1} → statement M
 key-at-spec =
     tie.close
     (tie.spec
+    sub-if2
+    key-in-requires
+    returns
     add-be32
     be32-requires
     cast-file
@@ -65,4 +77,4 @@ key-at-spec =
     mul-result-2
     add-result
     add-result-2
-    returns)
+    returns-2)

@@ -17,21 +17,21 @@ use Rattle.map.proofs.bits.bit_test.Statement.{statement}
 use Rattle.map.proofs.bits.bit_test.Tie as tie
 
 abbrev Inv-loop : tie.InvT-loop
-Inv-loop image visited first₀ node₀ left₀ first node left = Searched image (visited .bits) first node left
+Inv-loop image bits first₀ node₀ left₀ first node left = Searched image bits first node left
 
 abbrev μ-loop : tie.MeasureT-loop
-μ-loop image visited first₀ node₀ left₀ first node left = left
+μ-loop image bits first₀ node₀ left₀ first node left = left
 
 -- the loop, where `node` is in the chain, and the function's entry
 abbrev turn : tie.Else1 Inv-loop μ-loop → tie.At-loop Inv-loop μ-loop
 turn c = c .before .before
 
 abbrev entry : tie.At-loop Inv-loop μ-loop → tie.Start Inv-loop μ-loop
-entry c = c .before .before .before .before .before .before .before .before
+entry c = c .before .before .before .before .before .before .before .before .before
 
 -- the search of the header's record found a bit
-in-header : (c : tie.After-known-told Inv-loop μ-loop) → let a = c .before .before .before .before .before .before .args in
-    lowestWrong (bitOf (a .visited .bits)) 0 (take 256 (drop 248 (a .image .now))) ≡ some (c .before .bit .given .0 .0)
+in-header : (c : tie.After-known-told Inv-loop μ-loop) → let a = c .before .before .before .before .before .before .before .args in
+    lowestWrong (bitOf (a .bits .now)) 0 (take 256 (drop 248 (a .image .now))) ≡ some (c .before .bit .given .0 .0)
 in-header c = hit-at _ _ (sym (c .before .before .before .wrong-in .ensures) ∙ c .before .bit .given .1)
 
 inside : (c : tie.Else1 Inv-loop μ-loop) → turn c .loop .node * 512 + 512 ≤ length (entry (turn c) .args .image .now)
@@ -39,14 +39,14 @@ inside c = record-inside _ (entry (turn c) .pre) _ _ _ _ (turn c .loop .inv) (c 
 
 -- what the search of a map node's record says
 at-record : (c : tie.After-wrong-in2 Inv-loop μ-loop) → let t = turn (c .before .before) in let a = entry t .args in
-    c .wrong-in2 .result ≡ hitOf (lowestWrong (bitOf (a .visited .bits)) (8 * t .loop .first) (mapRecord hfs (a .image .now) (t .loop .node)))
+    c .wrong-in2 .result ≡ hitOf (lowestWrong (bitOf (a .bits .now)) (8 * t .loop .first) (mapRecord hfs (a .image .now) (t .loop .node)))
 at-record c =
     let n = turn (c .before .before) .loop .node in
     let e : n * 512 + 14 + 494 - (n * 512 + 14) ≡ 494 = omega arith in
     rw e at (c .wrong-in2 .ensures)
 
 in-record : (c : tie.After-known-told2 Inv-loop μ-loop) → let t = turn (c .before .before .before .before .before) in let a = entry t .args in
-    lowestWrong (bitOf (a .visited .bits)) (8 * t .loop .first) (mapRecord hfs (a .image .now) (t .loop .node)) ≡ some (c .before .bit2 .given .0 .0)
+    lowestWrong (bitOf (a .bits .now)) (8 * t .loop .first) (mapRecord hfs (a .image .now) (t .loop .node)) ≡ some (c .before .bit2 .given .0 .0)
 in-record c = hit-at _ _ (sym (at-record (c .before .before .before)) ∙ c .before .bit2 .given .1)
 
 range : (c : tie.After-known-told2 Inv-loop μ-loop) → let t = turn (c .before .before .before .before .before) in let k = c .before .bit2 .given .0 .0 in
@@ -55,7 +55,7 @@ range c =
     let d = c .before .before .before .before .before in
     record-range _ (entry (turn d) .pre) _ _ _ _ (turn d .loop .inv) (d .before .loop-test .taken) (d .if1 .left) _ (in-record c)
 
-few : (c : tie.At-loop Inv-loop μ-loop) → c .loop .first + 494 * c .loop .left ≤ 2964256
+few : (c : tie.At-loop Inv-loop μ-loop) → c .loop .first + 494 * c .loop .left ≤ 32375040
 few c = let f = few-nodes _ (entry c .pre) in let g = c .loop .inv .few in omega arith
 
 sub-wrong-in : tie.Need-sub-wrong-in Inv-loop μ-loop
@@ -65,7 +65,7 @@ part-wrong-in-start : tie.Need-part-wrong-in-start Inv-loop μ-loop
 part-wrong-in-start c = search needs
 
 part-wrong-in-end : tie.Need-part-wrong-in-end Inv-loop μ-loop
-part-wrong-in-end c = omega (arith, c .before .pre .lengths .some)
+part-wrong-in-end c = omega (arith, c .before .before .pre .lengths .some)
 
 wrong-in-requires : tie.Need-wrong-in-requires Inv-loop μ-loop
 wrong-in-requires c κs = (simp (length-take, length-drop) (omega arith), omega arith)
@@ -74,14 +74,14 @@ enum-known-bit : tie.Need-enum-known-bit Inv-loop μ-loop
 enum-known-bit c = search needs
 
 add-at-byte : tie.Need-add-at-byte Inv-loop μ-loop
-add-at-byte c = let r = header-range _ (c .before .before .before .before .before .before .pre) _ _ (in-header c) in omega arith
+add-at-byte c = let r = header-range _ (c .before .before .before .before .before .before .before .pre) _ _ (in-header c) in omega arith
 
 at-byte-requires : tie.Need-at-byte-requires Inv-loop μ-loop
 at-byte-requires c κs = search needs
 
 returns : tie.Need-returns Inv-loop μ-loop
 returns c = let k = c .before in
-    c .at-byte .ensures ∙ header-found _ (k .before .before .before .before .before .before .pre) _ _ (in-header k)
+    c .at-byte .ensures ∙ header-found _ (k .before .before .before .before .before .before .before .pre) _ _ (in-header k)
 
 enum-told : tie.Need-enum-told Inv-loop μ-loop
 enum-told c = search needs
@@ -97,7 +97,7 @@ loop-holds c =
     let t = c .before .before in
     let w = t .before .before in
     rw (c .before .forward-of .ensures, c .be32 .ensures)
-    (searched-header _ (w .before .before .before .pre) _ (hit-nowhere _ (sym (w .wrong-in .ensures) ∙ t .enum-told .given .1)))
+    (searched-header _ (w .before .before .before .before .pre) _ (hit-nowhere _ (sym (w .wrong-in .ensures) ∙ t .enum-told .given .1)))
 
 cast-at : tie.Need-cast-at Inv-loop μ-loop
 cast-at c = let h = inside c in omega arith

@@ -14,27 +14,27 @@ use Rattle.map.proofs.bits.wrong_in.Statement.{statement}
 use Rattle.map.proofs.bits.wrong_in.Tie as tie
 
 abbrev Inv-bits : tie.InvT-bits
-Inv-bits map first visited found₀ i x y j₀ found j =
+Inv-bits map bits first found₀ i x y j₀ found j =
     (found ≡ Nowhere) × (j ≤ 8)
-    × (lowestWrong (bitOf (visited .bits)) (8 * first) map ≡ orSome (wrongIn (bitOf (visited .bits)) x (8 * (first + i)) j (8 - j)) (lowestWrong (bitOf (visited .bits)) (8 * (first + (i + 1))) (drop (i + 1) map)))
+    × (lowestWrong (bitOf bits) (8 * first) map ≡ orSome (wrongIn (bitOf bits) x (8 * (first + i)) j (8 - j)) (lowestWrong (bitOf bits) (8 * (first + (i + 1))) (drop (i + 1) map)))
 
 abbrev μ-bits : tie.MeasureT-bits
-μ-bits map first visited found₀ i x y j₀ found j = 8 - j
+μ-bits map bits first found₀ i x y j₀ found j = 8 - j
 
 abbrev Inv-bytes : tie.InvT-bytes
-Inv-bytes map first visited found₀ i₀ found i = (found ≡ Nowhere) × (i ≤ length map) × (lowestWrong (bitOf (visited .bits)) (8 * first) map ≡ lowestWrong (bitOf (visited .bits)) (8 * (first + i)) (drop i map))
+Inv-bytes map bits first found₀ i₀ found i = (found ≡ Nowhere) × (i ≤ length map) × (lowestWrong (bitOf bits) (8 * first) map ≡ lowestWrong (bitOf bits) (8 * (first + i)) (drop i map))
 
 abbrev μ-bytes : tie.MeasureT-bytes
-μ-bytes map first visited found₀ i₀ found i = length map - i
+μ-bytes map bits first found₀ i₀ found i = length map - i
 
 bytes-holds : tie.Need-bytes-holds Inv-bits μ-bits Inv-bytes μ-bytes
-bytes-holds c = (search needs, search needs, let e : c .before .args .first + 0 ≡ c .before .args .first = omega arith in rw e)
+bytes-holds c = (search needs, search needs, let e : c .before .before .args .first + 0 ≡ c .before .before .args .first = omega arith in rw e)
 
 shared-slice-read-x : tie.Need-shared-slice-read-x Inv-bits μ-bits Inv-bytes μ-bytes
 shared-slice-read-x c = search needs
 
 cast-x : tie.Need-cast-x Inv-bits μ-bits Inv-bytes μ-bytes
-cast-x c = omega (arith, c .shared-slice-known2 .given (c .before .before .bytes .i))
+cast-x c = omega (arith, c .shared-slice-known3 .given (c .before .before .bytes .i))
 
 add-byte-at : tie.Need-add-byte-at Inv-bits μ-bits Inv-bytes μ-bytes
 add-byte-at c = search needs
@@ -43,7 +43,7 @@ byte-at-requires : tie.Need-byte-at-requires Inv-bits μ-bits Inv-bytes μ-bytes
 byte-at-requires c κs = search needs
 
 bits-holds : tie.Need-bits-holds Inv-bits μ-bits Inv-bytes μ-bytes
-bits-holds c = (search needs, omega arith, c .before .before .before .before .before .before .before .bytes .inv .2 ∙ byte-more _ _ _ _ (c .before .before .before .before .before .before .bytes-test .taken))
+bits-holds c = (search needs, omega arith, c .before .before .before .before .bytes .inv .2 ∙ byte-more _ _ _ _ (c .before .before .before .bytes-test .taken))
 
 sub-if2 : tie.Need-sub-if2 Inv-bits μ-bits Inv-bytes μ-bytes
 sub-if2 c = search needs
@@ -57,17 +57,17 @@ sub-if2-2 c = search needs
 shr-if2-2 : tie.Need-shr-if2-2 Inv-bits μ-bits Inv-bytes μ-bytes
 shr-if2-2 c = search needs
 
+add-t20 : tie.Need-add-t20 Inv-bits μ-bits Inv-bytes μ-bytes
+add-t20 c = search needs
+
+mul-t21 : tie.Need-mul-t21 Inv-bits μ-bits Inv-bytes μ-bytes
+mul-t21 c = search needs
+
+cast-t22 : tie.Need-cast-t22 Inv-bits μ-bits Inv-bytes μ-bytes
+cast-t22 c = search needs
+
 add-t23 : tie.Need-add-t23 Inv-bits μ-bits Inv-bytes μ-bytes
 add-t23 c = search needs
-
-mul-t24 : tie.Need-mul-t24 Inv-bits μ-bits Inv-bytes μ-bytes
-mul-t24 c = search needs
-
-cast-t25 : tie.Need-cast-t25 Inv-bits μ-bits Inv-bytes μ-bytes
-cast-t25 c = search needs
-
-add-t26 : tie.Need-add-t26 Inv-bits μ-bits Inv-bytes μ-bytes
-add-t26 c = search needs
 
 add-j : tie.Need-add-j Inv-bits μ-bits Inv-bytes μ-bytes
 add-j c = search needs
@@ -77,8 +77,8 @@ bits-less c = search needs
 
 bits-again : tie.Need-bits-again Inv-bits μ-bits Inv-bytes μ-bytes
 bits-again c =
-    let a = c .before .before .before .before .before .before .before .before .before .before .before .before .args in
-    let i = c .before .before .before .before .before .before .before .before .before .before .bytes .i in
+    let a = c .before .before .before .before .before .before .before .before .before .before .args in
+    let i = c .before .before .before .before .before .before .before .bytes .i in
     let j = c .before .before .bits .j in
     let inv = c .before .before .bits .inv .2 in
     let y = c .before .before .before .before .byte-at .ensures .0 in
@@ -92,8 +92,8 @@ bytes-less c = search needs
 
 bytes-again : tie.Need-bytes-again Inv-bits μ-bits Inv-bytes μ-bytes
 bytes-again c =
-    let b = c .before .before .before .before .before .before .before .bytes in
-    let more = byte-more _ _ _ _ (c .before .before .before .before .before .before .bytes-test .taken) in
+    let b = c .before .before .before .before .bytes in
+    let more = byte-more _ _ _ _ (c .before .before .before .bytes-test .taken) in
     ⊎-elim
     (λ w. (w .3 ∙ w .1 .inv .0, omega arith, w .1 .inv .2 ∙ bits-end _ _ _ _ _ (w .2 .left)))
     (λ w. (w .1 ∙ b .inv .0, omega arith, b .inv .2 ∙ more ∙ same-byte _ _ _ _ (w .0 .left ∙ c .before .byte-at .ensures .0)))
@@ -104,8 +104,8 @@ returns c = c .before .bytes .inv .0 ∙ sym (ap hitOf (c .before .bytes .inv .2
 
 returns-2 : tie.Need-returns-2 Inv-bits μ-bits Inv-bytes μ-bytes
 returns-2 c =
-    let a = c .before .before .before .before .before .before .before .before .before .before .before .before .args in
-    let i = c .before .before .before .before .before .before .before .before .before .before .bytes .i in
+    let a = c .before .before .before .before .before .before .before .before .before .before .args in
+    let i = c .before .before .before .before .before .before .before .bytes .i in
     let j = c .before .before .bits .j in
     let inv = c .before .before .bits .inv .2 in
     let y = c .before .before .before .before .byte-at .ensures .0 in
@@ -130,10 +130,10 @@ wrong-in-spec =
     shr-if2
     sub-if2-2
     shr-if2-2
+    add-t20
+    mul-t21
+    cast-t22
     add-t23
-    mul-t24
-    cast-t25
-    add-t26
     add-j
     bits-less
     bits-again

@@ -1,14 +1,14 @@
 -- `form::keys_lawful` meets its contract. Assumes nothing.
 use native.Mathlib.Omega.{arith}
 use Prim.Native.Nat.{ℕ, _+_, _-_, _*_, _<_, _≤_}
-use lib.ListN.{getD}
+use lib.ListN.{length, getD}
 use Rattle.btree.proofs.Decisions.{said, unsaid}
 use mathlib.Core.Path.{_≡_, sym, _∙_}
 use borrow.Author.Tests.{not-true, not-false}
 use borrow.Author.Count.{below-more}
 use Rattle.formats.specs.Format.{recordAt}
 use Rattle.formats.specs.Key.{Lawful, decLawful}
-use Rattle.formats.proofs.Sizes.{record-next}
+use Rattle.formats.proofs.Sizes.{record-next, offset-inside}
 use Rattle.nodes.proofs.Telling.{tells-yes, tells-no}
 use borrow.Author.Needs.{needs}
 use Rattle.nodes.proofs.form.keys_lawful.Statement.{statement}
@@ -30,18 +30,27 @@ record-at-requires c κs = search needs
 loop-holds : tie.Need-loop-holds Inv-loop μ-loop
 loop-holds c = (search needs, c .record-at .ensures .0, omega (arith, c .record-at .ensures .1), λ j h. absurd (omega arith))
 
-byte-at-requires : tie.Need-byte-at-requires Inv-loop μ-loop
-byte-at-requires c κs = search needs
+-- record i lies in the image
+inside : (c : tie.At-loop Inv-loop μ-loop) → c .loop .i < c .before .before .before .before .args .c → c .loop .at + 12 ≤ length (c .before .before .before .before .args .image .now)
+inside c h =
+    let a = c .before .before .before .before in
+    let o = offset-inside (a .args .image .now) (a .args .node) (c .loop .i) (omega (arith, a .pre .1)) in
+    let e = c .loop .inv .1 in
+    let n = a .pre .0 in
+    omega arith
+
+byte-in-requires : tie.Need-byte-in-requires Inv-loop μ-loop
+byte-in-requires c κs = let h = inside (c .before) (c .loop-test .taken) in omega arith
 
 returns : tie.Need-returns Inv-loop μ-loop
 returns c = let l = c .before .before .before .loop in
-    tells-no (λ f. c .if1 .taken (c .before .byte-at .ensures .0 ∙ rw (l .inv .1) (f (l .i) (omega arith) .0)))
+    tells-no (λ f. c .if1 .taken (c .before .byte-in .ensures .0 ∙ rw (l .inv .1) (f (l .i) (omega arith) .0)))
 
-add-byte-at : tie.Need-add-byte-at Inv-loop μ-loop
-add-byte-at c = search needs
+add-byte-in : tie.Need-add-byte-in Inv-loop μ-loop
+add-byte-in c = search needs
 
-byte-at-requires-2 : tie.Need-byte-at-requires-2 Inv-loop μ-loop
-byte-at-requires-2 c κs = search needs
+byte-in-requires-2 : tie.Need-byte-in-requires-2 Inv-loop μ-loop
+byte-in-requires-2 c κs = let l = c .before .before .before in let h = inside l (c .before .before .loop-test .taken) in omega arith
 
 is-lawful-requires : tie.Need-is-lawful-requires Inv-loop μ-loop
 is-lawful-requires c κs = search needs
@@ -49,7 +58,7 @@ is-lawful-requires c κs = search needs
 returns-2 : tie.Need-returns-2 Inv-loop μ-loop
 returns-2 c = let l = c .before .before .before .before .before .before .loop in
     tells-no (λ f. unsaid (decLawful _) (sym (c .before .is-lawful .ensures) ∙ not-true _ (c .if2 .taken))
-    (rw (c .before .before .byte-at2 .ensures .0, l .inv .1) (f (l .i) (omega arith) .1)))
+    (rw (c .before .before .byte-in2 .ensures .0, l .inv .1) (f (l .i) (omega arith) .1)))
 
 add-at : tie.Need-add-at Inv-loop μ-loop
 add-at c = search needs
@@ -71,8 +80,8 @@ loop-again c = let l = c .before .before .before .before .before .before in
       omega arith,
       omega arith,
       below-more _ _ (l .loop .inv .3) (
-        rw (← e) (sym (c .before .before .before .before .byte-at .ensures .0) ∙ c .before .before .before .if1 .left),
-        rw (← e, ← c .before .before .byte-at2 .ensures .0) (said (decLawful _) (sym (c .before .is-lawful .ensures) ∙ not-false _ (c .if2 .left))),
+        rw (← e) (sym (c .before .before .before .before .byte-in .ensures .0) ∙ c .before .before .before .if1 .left),
+        rw (← e, ← c .before .before .byte-in2 .ensures .0) (said (decLawful _) (sym (c .before .is-lawful .ensures) ∙ not-false _ (c .if2 .left))),
       ),
     )
 
@@ -88,10 +97,10 @@ keys-lawful-spec =
     record-step-requires
     record-at-requires
     loop-holds
-    byte-at-requires
+    byte-in-requires
     returns
-    add-byte-at
-    byte-at-requires-2
+    add-byte-in
+    byte-in-requires-2
     is-lawful-requires
     returns-2
     add-at

@@ -23,24 +23,24 @@ mul-base c = search needs
 loop-holds : tie.Need-loop-holds Inv-loop μ-loop
 loop-holds c = (search needs, omega arith, search needs, λ j h. absurd (omega arith))
 
-cast-be16 : tie.Need-cast-be16 Inv-loop μ-loop
-cast-be16 c = search needs
+cast-be16-in : tie.Need-cast-be16-in Inv-loop μ-loop
+cast-be16-in c = search needs
 
-mul-be16 : tie.Need-mul-be16 Inv-loop μ-loop
-mul-be16 c = search needs
+mul-be16-in : tie.Need-mul-be16-in Inv-loop μ-loop
+mul-be16-in c = search needs
 
-sub-be16 : tie.Need-sub-be16 Inv-loop μ-loop
-sub-be16 c = search needs
+sub-be16-in : tie.Need-sub-be16-in Inv-loop μ-loop
+sub-be16-in c = search needs
 
-add-be16 : tie.Need-add-be16 Inv-loop μ-loop
-add-be16 c = search needs
+add-be16-in : tie.Need-add-be16-in Inv-loop μ-loop
+add-be16-in c = search needs
 
-be16-requires : tie.Need-be16-requires Inv-loop μ-loop
-be16-requires c κs = search needs
+be16-in-requires : tie.Need-be16-in-requires Inv-loop μ-loop
+be16-in-requires c κs = search needs
 
 returns : tie.Need-returns Inv-loop μ-loop
 returns c = let l = c .before .before .before .loop in
-    tells-no (λ f. c .if1 .taken (c .before .be16 .ensures .0 ∙ f (l .i) (omega arith) ∙ sym (l .inv .1)))
+    tells-no (λ f. c .if1 .taken (c .before .be16-in .ensures .0 ∙ f (l .i) (omega arith) ∙ sym (l .inv .1)))
 
 add-want : tie.Need-add-want Inv-loop μ-loop
 add-want c = search needs
@@ -57,7 +57,7 @@ loop-again c = let l = c .before .before .before .loop in
       search needs,
       rw (add-one (l .i)) (omega arith),
       search needs,
-      below-more _ _ (l .inv .3) (sym (c .before .be16 .ensures .0) ∙ c .if1 .left ∙ l .inv .1),
+      below-more _ _ (l .inv .3) (sym (c .before .be16-in .ensures .0) ∙ c .if1 .left ∙ l .inv .1),
     )
 
 returns-2 : tie.Need-returns-2 Inv-loop μ-loop
@@ -71,11 +71,11 @@ offsets-right-spec =
     μ-loop
     mul-base
     loop-holds
-    cast-be16
-    mul-be16
-    sub-be16
-    add-be16
-    be16-requires
+    cast-be16-in
+    mul-be16-in
+    sub-be16-in
+    add-be16-in
+    be16-in-requires
     returns
     add-want
     add-i

@@ -45,7 +45,12 @@ returns-5 c = sym (says-no (decRecords _ _ _) (λ r. told-no _ (c .before .offse
     (rw (c .before .before .record-size .ensures .0, c .before .before .before .before .before .before .count-of .ensures .0) (r .offsets))))
 
 keys-lawful-requires : tie.Need-keys-lawful-requires
-keys-lawful-requires c κs = search needs
+unfolding kindOf
+keys-lawful-requires c κs =
+    let m = c .before .before .before .before in
+    let k = m .before .before .before .before .before in
+    let e = sym (k .before .kind-of .ensures .0) ∙ k .if1 .left in
+    (search needs, rw (e, ← m .max-records .ensures .0) (omega arith), search needs)
 
 returns-6 : tie.Need-returns-6
 unfolding kindOf

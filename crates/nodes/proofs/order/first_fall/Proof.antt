@@ -5,7 +5,7 @@ use mathlib.Core.Path.{_≡_}
 use Rattle.nodes.specs.Bound.{bound}
 use Rattle.formats.specs.Format.{recordAt, view}
 use Rattle.btree.specs.Header.{viewOf}
-use Rattle.formats.proofs.Sizes.{record-next}
+use Rattle.formats.proofs.Sizes.{record-next, offset-inside}
 use Rattle.nodes.proofs.Bounds.{under-bound, bound-under}
 use Rattle.nodes.proofs.Ascent.{upto-none, upto-more, upto-low, upto-hit, upto-all, Upto}
 use borrow.Author.Needs.{needs}
@@ -19,10 +19,10 @@ abbrev μ-loop : tie.MeasureT-loop
 μ-loop image node high c step at₀ next₀ i₀ at next i = c - i
 
 -- the key read is that of record i
-key-is : (c : tie.After-key-at Inv-loop μ-loop) → let l = c .before .before in let a = l .before .before .before .before .before .args in
-    c .key-at .result ≡ view (a .image .now) .key (a .node) (l .loop .i)
+key-is : (c : tie.After-key-in Inv-loop μ-loop) → let l = c .before .before in let a = l .before .before .before .before .before .args in
+    c .key-in .result ≡ view (a .image .now) .key (a .node) (l .loop .i)
 unfolding viewOf
-key-is c = rw (← c .before .before .loop .inv .2) (c .key-at .ensures .0)
+key-is c = rw (← c .before .before .loop .inv .2) (c .key-in .ensures .0)
 
 count-of-requires : tie.Need-count-of-requires Inv-loop μ-loop
 count-of-requires c κs = search needs
@@ -36,8 +36,15 @@ record-at-requires c κs = search needs
 loop-holds : tie.Need-loop-holds Inv-loop μ-loop
 loop-holds c = (search needs, upto-none _ _ _, c .record-at .ensures .0, omega (arith, c .record-at .ensures .1))
 
-key-at-requires : tie.Need-key-at-requires Inv-loop μ-loop
-key-at-requires c κs = omega (arith, c .before .before .before .before .count-of .ensures .1)
+key-in-requires : tie.Need-key-in-requires Inv-loop μ-loop
+key-in-requires c κs =
+    let l = c .before in
+    let s = l .before .before .before .before .before in
+    let n = l .before .before .before .count-of .ensures .0 in
+    let o = offset-inside (s .args .image .now) (s .args .node) (l .loop .i) (omega (arith, s .pre .few, c .loop-test .taken)) in
+    let e = l .loop .inv .2 in
+    let h = s .pre .node in
+    omega arith
 
 returns : tie.Need-returns Inv-loop μ-loop
 unfolding viewOf
@@ -52,7 +59,7 @@ returns-2 c = let k = c .before .before in
     let l = k .before .before in
     let a = l .before .before .before .before .before .args in
     let e = key-is k in
-    let b = k .key-at .ensures .1 in
+    let b = k .key-in .ensures .1 in
     upto-hit _ _ _ _ _ (l .loop .inv .1) (omega arith)
     (λ r. let w = bound-under (view (a .image .now) .key (a .node) (l .loop .i)) (a .high) (omega arith) (r .1) in omega arith)
 
@@ -97,7 +104,7 @@ first-fall-spec =
     record-step-requires
     record-at-requires
     loop-holds
-    key-at-requires
+    key-in-requires
     returns
     returns-2
     add-next

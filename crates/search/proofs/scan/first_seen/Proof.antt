@@ -14,7 +14,7 @@ use Rattle.search.proofs.scan.first_seen.Statement.{statement}
 use Rattle.search.proofs.scan.first_seen.Tie as tie
 
 abbrev Inv-loop : tie.InvT-loop
-Inv-loop image k total node₀ node = (total ≤ 6000) × (1 ≤ node) × (seenFrom image k 1 (length image / 512 - 1) ≡ seenFrom image k node (total - node))
+Inv-loop image k total node₀ node = (total ≤ 65536) × (1 ≤ node) × (seenFrom image k 1 (length image / 512 - 1) ≡ seenFrom image k node (total - node))
 
 abbrev μ-loop : tie.MeasureT-loop
 μ-loop image k total node₀ node = total - node

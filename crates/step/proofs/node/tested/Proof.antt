@@ -5,14 +5,14 @@ use mathlib.Core.Path.{_≡_, sym, ap, _∙_}
 use borrow.Author.Tests.{not-true, not-false}
 use native.Mathlib.Decide.{ℕ-discrete}
 use Rattle.btree.proofs.First.{fault4, fault5, fault6, fault7-back, fault7-forward, no-fault}
-use Rattle.btree.proofs.Decisions.{says-yes, says-no}
+use Rattle.btree.proofs.Decisions.{says-yes, says-no, said}
 use Rattle.btree.proofs.Hits.{hit-at, hit-nowhere}
 use Rattle.btree.proofs.Keys.{wrong-iff}
 use Rattle.btree.specs.Walk.{fails, wrongKey}
 use Rattle.btree.specs.Header.{viewOf}
 use Rattle.btree.specs.Decide.{says}
 use Rattle.nodes.specs.Bound.{bound}
-use Rattle.formats.specs.Format.{view}
+use Rattle.formats.specs.Format.{decNodeOn, view}
 use borrow.Author.Needs.{needs}
 use Rattle.step.proofs.node.tested.Statement.{statement}
 use Rattle.step.proofs.node.tested.Tie as tie
@@ -40,7 +40,7 @@ returns : tie.Need-returns
 returns c = sym (fault4 _ _ _ _ (not-true _ (c .if1 .taken)))
 
 node-right-requires : tie.Need-node-right-requires
-node-right-requires c κs = search needs
+node-right-requires c κs = let p = c .before .before .pre in (p .0 (fresh c), p .1)
 
 at-node-requires : tie.Need-at-node-requires
 at-node-requires c κs = search needs
@@ -49,7 +49,10 @@ returns-2 : tie.Need-returns-2
 returns-2 c = let n = c .before .before in c .at-node .ensures ∙ sym (fault5 _ _ _ _ (fresh (n .before)) (sym (n .node-right .ensures) ∙ not-true _ (c .before .if2 .taken)))
 
 wrong-key-requires : tie.Need-wrong-key-requires
-wrong-key-requires c κs = search needs
+unfolding viewOf
+wrong-key-requires c κs =
+    let r = said (decNodeOn _ _ _ _) (head c) .records in
+    record { node = c .before .before .before .before .pre .0 (fresh (c .before .before)); few = rw (r .isKind) (r .few) }
 
 enum-known-i : tie.Need-enum-known-i
 enum-known-i c = search needs

@@ -10,23 +10,11 @@ first-with-requires c κs = search needs
 counted-requires : tie.Need-counted-requires
 counted-requires c κs = search needs
 
-element-copy-out-x : tie.Need-element-copy-out-x
-element-copy-out-x c = search needs
-
-cast-x : tie.Need-cast-x
-cast-x c = search needs
-
-shr-x : tie.Need-shr-x
-shr-x c = search needs
-
-element-write-x : tie.Need-element-write-x
-element-write-x c = search needs
-
 mul-x : tie.Need-mul-x
 mul-x c = search needs
 
-element-write-x-2 : tie.Need-element-write-x-2
-element-write-x-2 c = search needs
+element-write-x : tie.Need-element-write-x
+element-write-x c = search needs
 
 add-x : tie.Need-add-x
 add-x c = search needs
@@ -36,20 +24,9 @@ add-x-2 c = search needs
 
 returns : tie.Need-returns
 unfolding kept
-returns c = rw (c .before .before .first-with .ensures, c .before .counted .ensures .0)
+returns c = rw (c .before .first-with .ensures, c .counted .ensures .0)
 
 pub kept-at-spec : {M : Type 1} → statement M
 kept-at-spec =
     tie.close
-    (tie.spec
-    first-with-requires
-    counted-requires
-    element-copy-out-x
-    cast-x
-    shr-x
-    element-write-x
-    mul-x
-    element-write-x-2
-    add-x
-    add-x-2
-    returns)
+    (tie.spec first-with-requires counted-requires mul-x element-write-x add-x add-x-2 returns)

@@ -1,16 +1,18 @@
--- The proof of the cycle of calls {visit}. Its measure is `below`. The loop's invariant: the steps along the entries left, from the state
--- that is there, give what those along all entries below the node give from the state that the loop began with. Assumes nothing.
+-- The proof of the cycle of calls {visit}. Its measure is `below`. The loop's invariant: the steps along the entries left, from the bits and
+-- the state that are there, give what those along all entries below the node give from those that the loop began with. Assumes nothing.
 use borrow.Author.Needs.{needs}
 use native.Mathlib.Omega.{arith}
 use native.Mathlib.Nat.{sub-zero}
-use mathlib.Core.Path.{_≡_, sym, _∙_}
+use mathlib.Core.Path.{_≡_, refl, sym, ap, _∙_}
 use Prim.Native.Nat.{ℕ, _-_, _<_, _≤_}
+use lib.ListN.{length}
 use Rattle.btree.specs.Lists.{span}
 use Rattle.btree.specs.Header.{viewOf}
 use Rattle.btree.specs.Walk.{entries}
 use Rattle.formats.specs.Format.{view}
 use Rattle.nodes.specs.Bound.{bound}
 use Rattle.walk.specs.Visit.{steps}
+use Rattle.step.specs.State.{State, state}
 use Rattle.step.specs.Room.{Small}
 use Rattle.btree.proofs.Entries.{kid}
 use Rattle.walk.proofs.Steps.{steps-stuck, steps-leaf, steps-index, kids-end, kids-on}
@@ -25,11 +27,11 @@ use Rattle.step.proofs.stepped.Reads as stepped-reads
 use Rattle.walk.proofs.visit.+visit.{statement}
 use Rattle.walk.proofs.visit.+visit.Tie.{close}
 
-abbrev μ-visit : Measures 1 visit-kinds.ps ℕ
-μ-visit κs a = a .1 .1 .1 .1 .1 .0
+abbrev μ-visit : Measures 2 visit-kinds.ps ℕ
+μ-visit κs a = a .1 .1 .1 .1 .1 .1 .0
 
-abbrev pre : ℕ → In 1 visit-kinds.ps
-pre t = and 1 visit-kinds.ps (is 1 visit-kinds.ps μ-visit t) visit.Pre
+abbrev pre : ℕ → In 2 visit-kinds.ps
+pre t = and 2 visit-kinds.ps (is 2 visit-kinds.ps μ-visit t) visit.Pre
 
 abbrev calls : ℕ → lts.Claims
 calls t = (
@@ -39,49 +41,67 @@ calls t = (
   count-of-reads.Learnt,
   pointer-at-reads.Asked,
   pointer-at-reads.Learnt,
-  and 1 visit-kinds.ps (falls 1 visit-kinds.ps _<_ μ-visit t) visit.Pre,
+  and 2 visit-kinds.ps (falls 2 visit-kinds.ps _<_ μ-visit t) visit.Pre,
   visit.Post,
 )
 
 abbrev Inv : lts.InvT-loop
-Inv image node level below low high x₀ c i₀ x i =
+Inv image bits₀ node level below low high x₀ c i₀ bits x i =
     (i ≤ c)
-    × (steps (view image) x (span i (c - i) (kid (view image) (below - 1) level (bound high) node))
-    ≡ steps (view image) x₀ (span 0 c (kid (view image) (below - 1) level (bound high) node)))
-    × Small x
+    × (steps (view image) (state bits x) (span i (c - i) (kid (view image) (below - 1) level (bound high) node))
+    ≡ steps (view image) (state bits₀ x₀) (span 0 c (kid (view image) (below - 1) level (bound high) node)))
+    × Small (state bits x)
+    × (length bits ≡ length bits₀)
 
 abbrev μ : lts.MeasureT-loop
-μ image node level below low high x₀ c i₀ x i = c - i
+μ image bits₀ node level below low high x₀ c i₀ bits x i = c - i
 
 module _ (t : ℕ) where
+  abbrev start : lts.At-loop (calls t) (pre t) visit.Post Inv μ → lts.Start (calls t) (pre t) visit.Post Inv μ
+  start c = c .before .before .before .before .before .before .before .before .before
+
   -- what the loop is to give is what the visit is to give
-  whole : (c : lts.At-loop (calls t) (pre t) visit.Post Inv μ) → let a = c .before .before .before .before .before .args in
-      steps (view (a .image .now)) (c .before .before .before .stepped .result)
+  whole : (c : lts.At-loop (calls t) (pre t) visit.Post Inv μ) → let a = start c .args in let s = c .before .before .before .before .before .stepped in
+      steps (view (a .image .now)) (state (s .last .1 .0) (s .result))
       (span 0 (c .before .count-of .result) (kid (view (a .image .now)) (a .below - 1) (a .level) (bound (a .high)) (a .node)))
-      ≡ steps (view (a .image .now)) (a .w) (entries (view (a .image .now)) (a .below) (a .level) (a .from) (bound (a .low)) (bound (a .high)) (a .node))
+      ≡ steps (view (a .image .now)) (state (a .bits .now) (a .w)) (entries (view (a .image .now)) (a .below) (a .level) (a .from) (bound (a .low)) (bound (a .high)) (a .node))
   unfolding viewOf
   whole c =
-      rw (c .before .count-of .ensures .0, c .before .before .before .stepped .ensures .is)
-      (sym (steps-index _ _ _ _ _ _ _ _ (c .before .before .if1 .left)))
+      let a = start c .args in
+      let v = view (a .image .now) in
+      let s = c .before .before .before .before .before .stepped in
+      ap (λ (k : ℕ). steps v (state (s .last .1 .0) (s .result)) (span 0 k (kid v (a .below - 1) (a .level) (bound (a .high)) (a .node)))) (c .before .count-of .ensures .0)
+      ∙ ap (λ (x : State). steps v x (span 0 (v .count (a .node)) (kid v (a .below - 1) (a .level) (bound (a .high)) (a .node)))) (s .ensures .is)
+      ∙ sym (steps-index v (state (a .bits .now) (a .w)) (a .below) (a .level) (a .from) (bound (a .low)) (bound (a .high)) (a .node) (c .before .before .if1 .left))
+
+  -- no step changes how many bytes there are
+  long : (c : lts.At-loop (calls t) (pre t) visit.Post Inv μ) → length (c .loop .bits) ≡ length (start c .args .bits .now)
+  long c = c .loop .inv .3 ∙ c .before .before .before .before .before .stepped .kept .1 .0
 
   stepped-requires : lts.Need-stepped-requires (calls t) (pre t) visit.Post Inv μ
   stepped-requires c κs = search needs
 
+  same-length : lts.Need-same-length (calls t) (pre t) visit.Post Inv μ
+  same-length c = search needs
+
   returns : lts.Need-returns (calls t) (pre t) visit.Post Inv μ
   returns c =
-      let e = c .before .stepped .ensures in
+      let e = c .before .before .before .stepped .ensures in
       record { is = e .is ∙ sym (steps-leaf _ _ _ _ _ _ _ _ (c .if1 .taken)); small = e .small }
 
   count-of-requires : lts.Need-count-of-requires (calls t) (pre t) visit.Post Inv μ
   count-of-requires c κs = search needs
 
   loop-holds : lts.Need-loop-holds (calls t) (pre t) visit.Post Inv μ
-  loop-holds c = (search needs, rw sub-zero, c .before .before .stepped .ensures .small)
+  loop-holds c = (search needs, rw sub-zero, c .before .before .before .before .stepped .ensures .small, refl)
+
+  same-length-2 : lts.Need-same-length-2 (calls t) (pre t) visit.Post Inv μ
+  same-length-2 c = long (c .before .before .before)
 
   returns-2 : lts.Need-returns-2 (calls t) (pre t) visit.Post Inv μ
   returns-2 c =
       let l = c .before .before .before in
-      record { is = sym (steps-stuck _ _ _ (c .if2 .taken)) ∙ l .loop .inv .1 ∙ whole l; small = l .loop .inv .2 }
+      record { is = sym (steps-stuck _ (state (l .loop .bits) (l .loop .x)) _ (c .if2 .taken)) ∙ l .loop .inv .1 ∙ whole l; small = l .loop .inv .2 }
 
   pointer-at-requires : lts.Need-pointer-at-requires (calls t) (pre t) visit.Post Inv μ
   unfolding viewOf
@@ -90,22 +110,25 @@ module _ (t : ℕ) where
       (omega (arith, e .1), e .0)
 
   add-visit : lts.Need-add-visit (calls t) (pre t) visit.Post Inv μ
-  add-visit c = search needs
+  add-visit c = omega (arith, start (c .before .before .before .before .before .before) .pre .1)
 
   sub-visit : lts.Need-sub-visit (calls t) (pre t) visit.Post Inv μ
   sub-visit c = search needs
 
   visit-requires : lts.Need-visit-requires (calls t) (pre t) visit.Post Inv μ
   visit-requires c κs =
-      let e = c .before .before in
-      let p = e .before .before .before .before .before .before .before .before .pre in (
+      let e = c .before .before .before in
+      let l = e .before .before .before in
+      let p = start l .pre in (
         omega (arith, p),
         record {
           few = p .1 .few;
+          whole = p .1 .whole;
+          room = omega (arith, p .1 .room, long l);
           shallow = p .1 .shallow;
           levels = omega (arith, p .1);
           clear = e .if2 .left;
-          small = e .before .before .before .loop .inv .2;
+          small = l .loop .inv .2;
         },
       )
 
@@ -117,20 +140,23 @@ module _ (t : ℕ) where
 
   loop-again : lts.Need-loop-again (calls t) (pre t) visit.Post Inv μ
   loop-again c =
-      let e = c .before .before .before in
-      let l = e .before .before .before in
-      let a = l .before .before .before .before .before .args in (
-        search needs,
-        sym (kids-on _ (a .below - 1) (a .level) _ _ _ _ _ _ _ (e .before .before .loop-test .taken) (c .before .before .pointer-at .ensures) (c .visit .ensures .is))
-            ∙ l .loop .inv .1,
-        c .visit .ensures .small,
+      let v = c .before .before .visit in
+      let l = c .before .before .before .before .before .before .before .before .before in
+      let a = start l .args in (
+        omega (arith, c .before .before .before .before .before .before .before .before .loop-test .taken),
+        sym (kids-on _ (a .below - 1) (a .level) _ _ _ _ _ _ _ (c .before .before .before .before .before .before .before .before .loop-test .taken) (c .before .before .before .before .before .pointer-at .ensures) (v .ensures .is)) ∙ l .loop .inv .1,
+        v .ensures .small,
+        v .kept .1 .0 ∙ l .loop .inv .3,
       )
+
+  same-length-3 : lts.Need-same-length-3 (calls t) (pre t) visit.Post Inv μ
+  same-length-3 c = long (c .before)
 
   returns-3 : lts.Need-returns-3 (calls t) (pre t) visit.Post Inv μ
   returns-3 c =
       let l = c .before in
-      record { is = sym (kids-end _ _ _ _ _ (c .loop-test .left)) ∙ l .loop .inv .1 ∙ whole l; small = l .loop .inv .2 }
+      record { is = sym (kids-end _ _ (state (l .loop .bits) (l .loop .x)) _ _ (c .loop-test .left)) ∙ l .loop .inv .1 ∙ whole l; small = l .loop .inv .2 }
 
 pub +visit-spec : {M : Type 1} → statement M
 +visit-spec = close μ-visit λ t. lts.spec (calls t) (pre t) visit.Post Inv μ
-    (stepped-requires t) (returns t) (count-of-requires t) (loop-holds t) (returns-2 t) (pointer-at-requires t) (add-visit t) (sub-visit t) (visit-requires t) (add-i t) (loop-less t) (loop-again t) (returns-3 t)
+    (stepped-requires t) (same-length t) (returns t) (count-of-requires t) (loop-holds t) (same-length-2 t) (returns-2 t) (pointer-at-requires t) (add-visit t) (sub-visit t) (visit-requires t) (add-i t) (loop-less t) (loop-again t) (same-length-3 t) (returns-3 t)

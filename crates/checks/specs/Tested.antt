@@ -1,0 +1,29 @@
+-- What tests 2 to 10 ask and give, on the bytes that the nodes of an image need.
+-- Assumes nothing.
+use mathlib.Core.Path.{_≡_}
+use mathlib.Core.List.{List}
+use Prim.Native.Nat.{ℕ}
+use lib.ListN.{length}
+use Rattle.btree.specs.declared.Verdict.{Verdict}
+use Rattle.btree.specs.Tree.{reached}
+use Rattle.btree.specs.Image.{Lengths}
+use Rattle.btree.specs.Tests.{verdict}
+use Rattle.btree.specs.Work.{needed, neededLeft}
+use Rattle.hfs.specs.Hfs.{hfs}
+use Rattle.map.specs.Frame.{Marks}
+use Rattle.formats.specs.Format.{format, view}
+
+-- they ask for an image whose length is right, and the needed bytes
+pub record Ready (img bits : List ℕ) : Type 0 where
+  pub lengths : Lengths hfs img
+  pub enough : length bits ≡ needed hfs img
+
+-- they give the first fault, or else the bits of all nodes reached
+pub record Tested (img bits : List ℕ) (r : Verdict) : Type 0 where
+  pub is : r ≡ verdict hfs img format
+  pub used : r .number ≡ 0 → Marks bits (reached (view img))
+
+-- with the bytes as a call leaves them
+pub record Settled (img bits : List ℕ) (r : Verdict) : Type 0 where
+  pub is : r ≡ verdict hfs img format
+  pub left : bits ≡ neededLeft hfs img format (r .number)

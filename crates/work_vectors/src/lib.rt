@@ -1,0 +1,1 @@
+// Calls with bytes lent, and the bytes afterwards, proved: see specs/Table.antt and proofs/Table.antt.
