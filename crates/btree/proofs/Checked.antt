@@ -1,16 +1,16 @@
 -- What a check answers where working bytes are lent: 16 just where they are too few for an image of a right length, and else the verdict.
 -- Assumes nothing.
 use mathlib.Core.Path.{_≡_, sym, ap, _∙_}
-use mathlib.Core.Logic.{⊎-elim}
+use mathlib.Core.Logic.{⊎-elim, Dec·and}
 use mathlib.Core.Bool.{true, false}
 use mathlib.Core.List.{List}
 use Prim.Native.Nat.{ℕ, _*_, _≤_, _<_}
-use native.Mathlib.Decide.{decLe}
+use native.Mathlib.Decide.{decLe, decLt}
 use native.Mathlib.Omega.{arith}
 use Rattle.btree.specs.declared.Verdict.{Verdict}
 use Rattle.btree.specs.Places.{imageStart}
 use Rattle.btree.specs.Lists.{_∈_}
-use Rattle.btree.specs.Decide.{says}
+use Rattle.btree.specs.Decide.{says, map-dec}
 use Rattle.btree.specs.Layout.{Layout, Fits}
 use Rattle.btree.specs.Tree.{reached}
 use Rattle.btree.specs.Header.{Format, viewOf}
@@ -52,52 +52,51 @@ module _ (l : Layout) (img : List ℕ) (f : Format) (lent : ℕ) where
         unless-true (says (decLengths l img)) _ _ e
         ∙ unless-true (says (decLe (needed l img) lent)) _ _ (says-yes (decLe (needed l img) lent) h)
 
-  by-length : {P : Type 0} → (says (decLengths l img) ≡ true → P) → (says (decLengths l img) ≡ false → P) → P
-  by-length {P} a b = go (decLengths l img)
+  decTooFew : Dec (TooFew l img lent)
+  decTooFew = map-dec (λ (a, b). record { lengths = a; fewer = b }) (λ t. (t .lengths, t .fewer)) (Dec·and (decLengths l img) (decLt lent (needed l img)))
+
+  pub of-few : TooFew l img lent → checked l img f lent ≡ fails 16 imageStart
+  of-few t = checked-16 (says-yes (decLengths l img) (t .lengths)) (t .fewer)
+
+  -- the verdict wherever they are not too few
+  pub checked-else : (TooFew l img lent → ⊥) → checked l img f lent ≡ verdict l img f
+  checked-else h = go (decLengths l img) (decLe (needed l img) lent)
     where
-      go : Dec (Lengths l img) → P
-      go (yes h) = a (says-yes (decLengths l img) h)
-      go (no h) = b (says-no (decLengths l img) h)
+      go : Dec (Lengths l img) → Dec (needed l img ≤ lent) → checked l img f lent ≡ verdict l img f
+      go (yes d) (yes e) = checked-on (says-yes (decLengths l img) d) e
+      go (yes d) (no e) = absurd (h (record { lengths = d; fewer = omega arith }))
+      go (no d) e = let q = says-no (decLengths l img) d in checked-1 q ∙ sym (fault-1 l img f q)
 
   -- "Demands 2 and 3 hold for every call that lends at least the needed bytes"
-  pub checked-enough : needed l img ≤ lent → checked l img f lent ≡ verdict l img f
-  checked-enough h = by-length (λ e. checked-on e h) (λ e. checked-1 e ∙ sym (fault-1 l img f e))
+  checked-enough : needed l img ≤ lent → checked l img f lent ≡ verdict l img f
+  checked-enough h = checked-else (λ t. let w = t .fewer in omega arith)
 
-  -- and wherever they are not too few
-  pub checked-else : (TooFew l img lent → ⊥) → checked l img f lent ≡ verdict l img f
-  checked-else h = go (decLe (needed l img) lent) (decLengths l img)
+  -- the verdict is never 16
+  never-16 : verdict l img f .number ≡ 16 → ⊥
+  never-16 z = go (decLengths l img)
     where
-      go : Dec (needed l img ≤ lent) → Dec (Lengths l img) → checked l img f lent ≡ verdict l img f
-      go (yes e) d = checked-enough e
-      go (no e) (yes d) = absurd (h (record { lengths = d; fewer = omega arith }))
-      go (no e) (no d) = let q = says-no (decLengths l img) d in checked-1 q ∙ sym (fault-1 l img f q)
+      go : Dec (Lengths l img) → ⊥
+      go (yes d) = ⊎-elim (λ n. omega arith) (λ (a, b). omega arith) (verdict-ranged l img f (says-yes (decLengths l img) d) .range)
+      go (no d) = let n = ap (λ (t : Verdict). t .number) (fault-1 l img f (says-no (decLengths l img) d)) in omega arith
+
+  few-16 : checked l img f lent .number ≡ 16 → TooFew l img lent
+  few-16 z = go decTooFew
+    where
+      go : Dec (TooFew l img lent) → TooFew l img lent
+      go (yes t) = t
+      go (no n) = absurd (never-16 (sym (ap (λ (t : Verdict). t .number) (checked-else n)) ∙ z))
 
   module _ (fits : Fits l) where
-    -- the verdict is never 16
-    never-16 : verdict l img f .number ≡ 16 → ⊥
-    never-16 z =
-        by-length
-        (λ e. ⊎-elim (λ n. omega arith) (λ (a, b). omega arith) (verdict-ranged l img f e .range))
-        (λ e. let n = ap (λ (t : Verdict). t .number) (fault-1 l img f e) in omega arith)
-
-    few-16 : checked l img f lent .number ≡ 16 → TooFew l img lent
-    few-16 z = go (decLe (needed l img) lent) (decLengths l img)
-      where
-        go : Dec (needed l img ≤ lent) → Dec (Lengths l img) → TooFew l img lent
-        go (yes h) d = absurd (never-16 (sym (ap (λ (t : Verdict). t .number) (checked-enough h)) ∙ z))
-        go (no h) (yes d) = record { lengths = d; fewer = omega arith }
-        go (no h) (no d) = let n = ap (λ (t : Verdict). t .number) (checked-1 (says-no (decLengths l img) d)) in absurd (omega arith)
-
-    pub of-few : TooFew l img lent → checked l img f lent ≡ fails 16 imageStart
-    of-few t = checked-16 (says-yes (decLengths l img) (t .lengths)) (t .fewer)
-
     sound-0 : checked l img f lent .number ≡ 0 → Sound l img f × (needed l img ≤ lent)
-    sound-0 z = go (decLe (needed l img) lent) (decLengths l img)
+    sound-0 z = go decTooFew
       where
-        go : Dec (needed l img ≤ lent) → Dec (Lengths l img) → Sound l img f × (needed l img ≤ lent)
-        go (yes h) d = (verdict-sound l fits img f (sym (ap (λ (t : Verdict). t .number) (checked-enough h)) ∙ z), h)
-        go (no h) (yes d) = let n = ap (λ (t : Verdict). t .number) (of-few (record { lengths = d; fewer = omega arith })) in absurd (omega arith)
-        go (no h) (no d) = let n = ap (λ (t : Verdict). t .number) (checked-1 (says-no (decLengths l img) d)) in absurd (omega arith)
+        go : Dec (TooFew l img lent) → Sound l img f × (needed l img ≤ lent)
+        go (yes t) = let n = ap (λ (t : Verdict). t .number) (of-few t) in absurd (omega arith)
+        go (no n) = let s = verdict-sound l fits img f (sym (ap (λ (t : Verdict). t .number) (checked-else n)) ∙ z) in (s, enough s (decLe (needed l img) lent))
+          where
+            enough : Sound l img f → Dec (needed l img ≤ lent) → needed l img ≤ lent
+            enough s (yes h) = h
+            enough s (no h) = absurd (n (record { lengths = s .lengths; fewer = omega arith }))
 
     pub check-says : (r : Verdict) → r ≡ checked l img f lent → CheckSays l img f lent r
     check-says r q =

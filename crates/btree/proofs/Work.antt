@@ -21,8 +21,8 @@ use Rattle.btree.proofs.Decisions.{cond-yes, cond-no}
 use Rattle.btree.proofs.MapBits.{bit-head, bit-tail, bit-for, bit-not}
 
 -- half of x without its k lowest bits is x without one more
-halved : (x k : ℕ) → x / 2 ^ k / 2 ≡ x / 2 ^ suc k
-halved x k = div-div-eq-div-mul x (2 ^ k) 2 ∙ ap (λ (p : ℕ). x / p) (sym (pow-suc 2 k))
+one-bit-less : (x k : ℕ) → x / 2 ^ k / 2 ≡ x / 2 ^ suc k
+one-bit-less x k = div-div-eq-div-mul x (2 ^ k) 2 ∙ ap (λ (p : ℕ). x / p) (sym (pow-suc 2 k))
 
 module _ (nodes : List ℕ) where
   bit-few : (n : ℕ) → bitFor nodes n < 2
@@ -40,7 +40,7 @@ module _ (nodes : List ℕ) where
       let r = top-bits n x h b c (omega arith) in
       let q = b c (omega arith) in
       let e : 8 - c ≡ suc (7 - c) = omega arith in
-      let f : x / 2 ^ (7 - c) / 2 ≡ x / 2 ^ (8 - c) = halved x (7 - c) ∙ ap (λ (k : ℕ). x / 2 ^ k) (sym e) in
+      let f : x / 2 ^ (7 - c) / 2 ≡ x / 2 ^ (8 - c) = one-bit-less x (7 - c) ∙ ap (λ (k : ℕ). x / 2 ^ k) (sym e) in
       let g : x / 2 ^ (7 - c) ≡ 2 * (x / 2 ^ (7 - c) / 2) + x / 2 ^ (7 - c) % 2 = omega arith in
       let i : 8 - suc c ≡ 7 - c = omega arith in
       ap (λ (k : ℕ). x / 2 ^ k) i ∙ g ∙ rw (f, r, q)

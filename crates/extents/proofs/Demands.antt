@@ -139,7 +139,7 @@ module _ (img : List ℕ) (b : Bytes img) (k : Key) (r : InRange k) (lent : ℕ)
       record {
         ofSound = λ s h e. sound-answer img b k r s (lookedUp img k lent) (lookup-answers h (says .sound .1 (s, e)));
         ofUnlawful = lookup-unlawful;
-        ofFew = λ h t. refused-as h (fails 16 imageStart) (of-few hfs img format lent fits t) (λ z. omega arith);
+        ofFew = λ h t. refused-as h (fails 16 imageStart) (of-few hfs img format lent t) (λ z. omega arith);
         ofUnsound = λ h t n. refused-as h (verdict img) (checked-else hfs img format lent t) (λ z. n (verdict-sound hfs fits img format z));
         ofEnough = never-16;
       }
