@@ -3,14 +3,14 @@
  *
  * Any bytes are an image, and nobody has to have checked them first. An image is only read. No call
  * allocates, keeps anything or fails: each answers by a number and a place, and writes every element
- * of `out` and `data`, whatever the answer. `image`, `work`, `out` and `data` do not overlap, and none
- * is NULL, not even an empty image or no working bytes.
+ * of `out` and `data`, whatever the answer. `image`, `keys`, `results`, `work`, `out` and `data` do not
+ * overlap, and none is NULL, not even an empty image, no keys or no working bytes.
  *
- * A check and a lookup work in bytes that the caller lends, with any contents: one bit for each node of
- * the image, so HFS_WORK_BYTES(len) of them, at most HFS_MOST_WORK_BYTES for any image that is not
+ * A check and the lookups work in bytes that the caller lends, with any contents: one bit for each node
+ * of the image, so HFS_WORK_BYTES(len) of them, at most HFS_MOST_WORK_BYTES for any image that is not
  * refused by its length. What a call leaves there:
  *
- *  11, 1, 16          all bytes as they were
+ *  11, 15, 1, 16      all bytes as they were
  *  2 to 10            the needed bytes zero
  *  0, 12              in the needed bytes the bits of the nodes in use are set and no others: node n
  *                     has bit 7 - n % 8 of byte n / 8, so the top bit of a byte comes first
@@ -19,7 +19,7 @@
  * A place is a node and a byte offset in it.
  *
  *  No.  Meaning                                    Node and offset
- *   0   sound                                      0, 0
+ *   0   sound; or all keys looked up               0, 0
  *   0   found                                      the node, where the record starts
  *   1   length: not 1 to 65,536 whole nodes of     0, 0
  *       512 bytes
@@ -43,12 +43,13 @@
  *  12   absent                                     last node read, 0; 0, 0 at depth 0
  *  13   seen                                       the node, where the record starts
  *  14   not seen                                   0, 0
+ *  15   fewer results than keys                    0, 0
  *  16   fewer working bytes than the nodes need    0, 0
  *
  * Nodes count from 0, offsets from the node's start. Record r of a leaf starts at 14 + 20 r. Levels
  * count from the leaves: leaves are the nodes of level 1, each child's level is one less than its
  * parent's, and the root's is the depth. Of several faults the first in the order of tests is the
- * answer: 11, 1, 16, then 2 to 10.
+ * answer: 11 or 15, 1, 16, then 2 to 10.
  */
 #ifndef HFS_BTREE_H
 #define HFS_BTREE_H
@@ -59,6 +60,10 @@
 /* The working bytes that an image of so many bytes needs, and the most that any needs. */
 #define HFS_WORK_BYTES(len) (((len) / 512 + 7) / 8)
 #define HFS_MOST_WORK_BYTES 8192
+
+/* A key as one number; numeric order is key order. */
+#define HFS_PACKED_KEY(file, fork, start) \
+    ((uint64_t)(uint32_t)(file) << 24 | (uint64_t)(uint8_t)(fork) << 16 | (uint64_t)(uint16_t)(start))
 
 #ifdef __cplusplus
 extern "C" {
@@ -93,6 +98,27 @@ void hfs_check(const uint8_t *image, size_t len, uint8_t *work, size_t work_len,
  */
 void hfs_lookup(const uint8_t *image, size_t len, uint32_t file, uint8_t fork, uint16_t start,
                 uint8_t *work, size_t work_len, uint32_t out[13], uint8_t data[12]);
+
+/*
+ * What stands under each of these keys? The rows are measured first, then the whole image is checked,
+ * once, and only then the tree is searched, key by key. A key is asked by its HFS_PACKED_KEY, and any
+ * other number gets a result too. `keys_len` and `results_len` count elements.
+ *
+ * out[0]  0 if each key has its result; 15 if there are fewer results than keys; else the check's own
+ * out[1]  the node of the fault's place; 0 for 0 and 15
+ * out[2]  the offset of the fault's place in that node; 0 for 0 and 15
+ *
+ * After 0 results[i] is for keys[i], and of a key says what hfs_lookup says:
+ *
+ *   0      absent
+ *   1      no key: its fork byte is neither 00 nor FF, or it is 2 to the 56 or more
+ *   other  found: the record's 12 data bytes start at image + results[i]; never below 2
+ *
+ * Results beyond the keys stay as they were. After any other number all of them do.
+ */
+void hfs_lookup_many(const uint8_t *image, size_t len, const uint64_t *keys, size_t keys_len,
+                     uint32_t *results, size_t results_len, uint8_t *work, size_t work_len,
+                     uint32_t out[3]);
 
 /*
  * What can be seen under this key in an image of any state? From node 1 up, the first record with

@@ -71,11 +71,11 @@ module _ (l : Layout) (img : List ℕ) (f : Format) (lent : ℕ) where
   checked-enough : needed l img ≤ lent → checked l img f lent ≡ verdict l img f
   checked-enough h = checked-else (λ t. let w = t .fewer in omega arith)
 
-  -- the verdict is never 16
-  never-16 : verdict l img f .number ≡ 16 → ⊥
-  never-16 z = go (decLengths l img)
+  -- the verdict's numbers end at 10
+  verdict-most : verdict l img f .number ≤ 10
+  verdict-most = go (decLengths l img)
     where
-      go : Dec (Lengths l img) → ⊥
+      go : Dec (Lengths l img) → verdict l img f .number ≤ 10
       go (yes d) = ⊎-elim (λ n. omega arith) (λ (a, b). omega arith) (verdict-ranged l img f (says-yes (decLengths l img) d) .range)
       go (no d) = let n = ap (λ (t : Verdict). t .number) (fault-1 l img f (says-no (decLengths l img) d)) in omega arith
 
@@ -84,7 +84,15 @@ module _ (l : Layout) (img : List ℕ) (f : Format) (lent : ℕ) where
     where
       go : Dec (TooFew l img lent) → TooFew l img lent
       go (yes t) = t
-      go (no n) = absurd (never-16 (sym (ap (λ (t : Verdict). t .number) (checked-else n)) ∙ z))
+      go (no n) = let e = ap (λ (t : Verdict). t .number) (checked-else n) in let m = verdict-most in absurd (omega arith)
+
+  -- 15 is no number of a check
+  pub checked-not-15 : checked l img f lent .number ≡ 15 → ⊥
+  checked-not-15 z = go decTooFew
+    where
+      go : Dec (TooFew l img lent) → ⊥
+      go (yes t) = let e = ap (λ (t : Verdict). t .number) (of-few t) in omega arith
+      go (no n) = let e = ap (λ (t : Verdict). t .number) (checked-else n) in let m = verdict-most in omega arith
 
   module _ (fits : Fits l) where
     sound-0 : checked l img f lent .number ≡ 0 → Sound l img f × (needed l img ≤ lent)

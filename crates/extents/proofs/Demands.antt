@@ -13,7 +13,7 @@ use Rattle.btree.specs.declared.Place.{Place}
 use Rattle.btree.specs.declared.Verdict.{Verdict}
 use Rattle.btree.specs.Places.{imageStart, imageOffset}
 use Rattle.btree.specs.Lists.{_∈_, lastOr}
-use Rattle.btree.specs.Tree.{Rec, leavesAt}
+use Rattle.btree.specs.Tree.{Rec}
 use Rattle.btree.specs.Header.{depthOf, viewOf}
 use Rattle.btree.specs.Walk.{fails}
 use Rattle.btree.specs.Numbers.{lookupReply}
@@ -22,7 +22,7 @@ use Rattle.btree.proofs.Ordered.{if-zero, if-other}
 use Rattle.btree.proofs.Paths.{path-short, leaf-stands, leafList-once}
 use Rattle.btree.proofs.Checked.{checked-else, of-few, check-says}
 use Rattle.btree.proofs.Soundness.{verdict-sound}
-use Rattle.btree.proofs.Answers.{answer-number, FoundAt, found-leaf, found-record, record-found, absent-none, none-absent, absent-place}
+use Rattle.btree.proofs.Answers.{answer-number, found-leaf, found-record, record-found, absent-none, none-absent, absent-place}
 use Rattle.btree.proofs.Work.{not-16, left-same, leaves}
 use Rattle.hfs.specs.Hfs.{hfs}
 use Rattle.hfs.proofs.Hfs.{fits}
@@ -86,6 +86,13 @@ module _ (img : List ℕ) (b : Bytes img) (k : Key) (r : InRange k) (s : Sound i
           let (x, m, q, _) = found-record (view img) (s .tree) (s .totals) (packed k) p (sym a ∙ e) in
           rw q at (leaf-stands (view img) (s .tree) (s .totals) x m .whole)
 
+-- the data of a record that the descent finds lies in the image
+pub answer-inside : (img : List ℕ) → Sound img → (k : ℕ) (p : Place) → answerOf (view img) k ≡ Found p → dataAt (imageOffset hfs p) + 12 ≤ length img
+unfolding viewOf
+answer-inside img s k p e =
+    let f = found-leaf (view img) (view img .depth) k p e in
+    subst (λ (o : Place). dataAt (imageOffset hfs o) + 12 ≤ length img) (f .starts) (leaf-inside img s (f .node) (f .number) (f .among) (f .inside))
+
 module _ (img : List ℕ) (b : Bytes img) (k : Key) (r : InRange k) (lent : ℕ) where
   of-lawful : Lawful (k .fork) → lookedUp img k lent ≡ afterCheck (view img) (packed k) (checked img lent)
   unfolding lookupOf
@@ -144,23 +151,20 @@ module _ (img : List ℕ) (b : Bytes img) (k : Key) (r : InRange k) (lent : ℕ)
         ofEnough = never-16;
       }
 
-  -- found is said of a sound image alone, at a record of a leaf
-  pub found-sound : (p : Place) → lookedUp img k lent .answer ≡ Found p → Sound img × FoundAt (view img) (packed k) p (leavesAt (view img) (view img .depth))
+  -- found is said of a sound image alone, as the descent answers
+  found-sound : (p : Place) → lookedUp img k lent .answer ≡ Found p → Sound img × (answerOf (view img) (packed k) ≡ Found p)
   found-sound p e = go (decLawful (k .fork)) (ℕ-discrete (checked img lent .number) 0)
     where
       never : (a : ℕ) (o : Place) → lookedUp img k lent ≡ refused a o → ⊥
       never a o q = let w = ap (λ (l : Lookup). l .answer) q in let z : _≡_ {A = ℕ} 0 1 = cc in omega arith
 
-      go : Dec (Lawful (k .fork)) → Dec (checked img lent .number ≡ 0) → Sound img × FoundAt (view img) (packed k) p (leavesAt (view img) (view img .depth))
+      go : Dec (Lawful (k .fork)) → Dec (checked img lent .number ≡ 0) → Sound img × (answerOf (view img) (packed k) ≡ Found p)
       go (no h) d = absurd (never 11 imageStart (lookup-unlawful h))
       go (yes h) (no z) = absurd (never (checked img lent .number) (checked img lent .place) (lookup-refused h z))
-      go (yes h) (yes z) =
-          (says .sound .0 z .0, found-leaf (view img) (view img .depth) (packed k) p (sym (ap (λ (l : Lookup). l .answer) (lookup-answers h z)) ∙ e))
+      go (yes h) (yes z) = (says .sound .0 z .0, sym (ap (λ (l : Lookup). l .answer) (lookup-answers h z)) ∙ e)
 
   pub found-inside : (p : Place) → lookedUp img k lent .answer ≡ Found p → dataAt (imageOffset hfs p) + 12 ≤ length img
-  unfolding viewOf
-  found-inside p e = let (s, f) = found-sound p e in
-      subst (λ (o : Place). dataAt (imageOffset hfs o) + 12 ≤ length img) (f .starts) (leaf-inside img s (f .node) (f .number) (f .among) (f .inside))
+  found-inside p e = let (s, f) = found-sound p e in answer-inside img s (packed k) p f
 
 -- what a lookup promises
 module _ (img : List ℕ) (b : Bytes img) (k : Key) (r : InRange k) (entry exit : List ℕ) (l : Lookup) (is : l ≡ lookedUp img k (length entry)) where

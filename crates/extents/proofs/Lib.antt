@@ -5,5 +5,7 @@ pub mod Parts
 pub mod Starts
 pub mod Compared
 pub mod Demands
+pub mod Results
+pub mod Many
 pub mod Matches
 pub mod Salvaged

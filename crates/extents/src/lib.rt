@@ -6,6 +6,7 @@ ghost use Rattle.btree.specs.Search.{refused};
 ghost use Rattle.formats.specs.Key.{asked};
 ghost use Rattle.extents.specs.Reader.{checked, CheckSays, Leaves, lookedUp, foundPart, salvaged, seenPart};
 ghost use Rattle.extents.specs.Demands.{LookupSays, PartOf};
+ghost use Rattle.extents.specs.Many.{manyAnswer, manyResults, ManySays};
 ghost use Rattle.extents.specs.Salvage.{SalvageSays};
 use btree::Answer;
 use btree::Lookup;
@@ -19,6 +20,7 @@ use formats::key::pack;
 use formats::records::data_of;
 use image::part::no_part;
 use search::descent::descend;
+use search::rows::fill;
 use search::scan::first_seen;
 
 // The first fault in the order of tests, number and place; 16 where too few bytes are lent; 0 at node 0, offset 0 for a sound image.
@@ -80,6 +82,24 @@ pub fn lookup_part<'a>(
         Answer::Absent(_) => no_part(image),
         Answer::Refused(_, _) => no_part(image),
     }
+}
+
+// What stands under each of many packed keys: the rows are measured first, then the whole image is judged once, and only then the tree is searched.
+// A result is the byte of the image where the data starts, 0 for absent, 1 for a number that is no key.
+pub fn lookup_many(image: &[u8], keys: &[u64], results: &mut [u32], work: &mut [u8]) -> Verdict
+    ensures equal { λ r. ⌜ r ≡ manyAnswer (now (image .entry)) (now (keys .entry)) (now (results .entry)) (length (now (work .entry))) ⌝ }
+    ensures written { λ _. ⌜ now (results .exit) ≡ manyResults (now (image .entry)) (now (keys .entry)) (now (results .entry)) (length (now (work .entry))) ⌝ }
+    ensures says { λ r. ⌜ ManySays (now (image .entry)) (now (keys .entry)) (now (results .entry)) (now (results .exit)) (length (now (work .entry))) r ⌝ }
+    ensures leaves { λ r. ⌜ Leaves (now (image .entry)) (r .number) (now (work .entry)) (now (work .exit)) ⌝ }
+{
+    if results.len() < keys.len() {
+        return at_node(15, 0);
+    }
+    let t = check(image, work);
+    if t.number == 0 {
+        fill(image, keys, results);
+    }
+    t
 }
 
 // The first record with the key in any whole leaf from node 1 up, in the tree or not. Seen proves nothing: a freed node may hold an old record.

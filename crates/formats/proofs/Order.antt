@@ -3,7 +3,7 @@
 use mathlib.Core.Path.{_≡_, sym, _∙_}
 use mathlib.Core.Logic.{_↔_}
 use mathlib.Core.List.{List}
-use Prim.Native.Nat.{ℕ, _+_, _<_}
+use Prim.Native.Nat.{ℕ, _+_, _/_, _%_, _<_}
 use native.Mathlib.Omega.{arith}
 use native.Mathlib.Decide.{decLt}
 use lib.IntN.{ℤ, pos, negsuc}
@@ -11,7 +11,7 @@ use lib.ListN.{getD}
 use Rattle.image.specs.Bytes.{be16At}
 use Rattle.btree.proofs.Decisions.{cond-yes, cond-no}
 use Rattle.formats.specs.declared.key.Key.{Key}
-use Rattle.formats.specs.Key.{packed, ranked, compared, keyAt}
+use Rattle.formats.specs.Key.{packed, unpacked, ranked, compared, keyAt}
 
 pub ranked-below : (a b : ℕ) (x : ℤ) → a < b → ranked a b x ≡ negsuc 0
 ranked-below a b x h = cond-yes (decLt a b) _ _ h
@@ -87,3 +87,24 @@ key-range img b at = record { fork = b (at + 1); start = let x = b (at + 6) in l
 pub packed-fork : (a b : Key) → InRange a → InRange b → packed a ≡ packed b → a .fork ≡ b .fork
 unfolding packed
 packed-fork a b ra rb e = omega arith
+
+-- a packed number stands for one key, and every key has one
+pub unpacked-range : (number : ℕ) → InRange (unpacked number)
+unpacked-range number = record { fork = omega arith; start = omega arith }
+
+pub packed-unpacked : (number : ℕ) → packed (unpacked number) ≡ number
+unfolding packed
+packed-unpacked number = omega arith
+
+pub unpacked-packed : (k : Key) → InRange k → unpacked (packed k) ≡ k
+unfolding packed
+unpacked-packed k r = rw (file, fork, start)
+  where
+    file : packed k / 16777216 ≡ k .file
+    file = let a = r .fork in let b = r .start in omega arith
+
+    fork : packed k / 65536 % 256 ≡ k .fork
+    fork = let a = r .fork in let b = r .start in omega arith
+
+    start : packed k % 65536 ≡ k .start
+    start = let a = r .start in omega arith

@@ -45,6 +45,11 @@ pub record-next : (img : List ℕ) (n i : ℕ) → recordAt img n (i + 1) ≡ re
 unfolding recordOffset
 record-next img n i = let e = suc-mul i (recordSize (kindOf img n)) in rw (add-one i) (omega arith)
 
+-- from the first record to another
+pub record-from : (img : List ℕ) (n i : ℕ) → recordAt img n i ≡ recordAt img n 0 + i * recordSize (kindOf img n)
+unfolding recordOffset
+record-from img n i = omega arith
+
 -- a record that a node has room for lies in it
 pub offset-inside : (img : List ℕ) (n i : ℕ) → i < maxRecords (kindOf img n) → recordOffset img n i + 12 ≤ 512
 unfolding recordOffset

@@ -1,9 +1,9 @@
 -- The key of an extents record, its packed number and its order.
 -- Assumes nothing.
 use mathlib.Core.Path.{_≡_}
-use mathlib.Core.Logic.{_⊎_}
+use mathlib.Core.Logic.{_⊎_, Dec·and}
 use mathlib.Core.List.{List}
-use Prim.Native.Nat.{ℕ, _+_, _*_}
+use Prim.Native.Nat.{ℕ, _+_, _*_, _/_, _%_, _<_}
 use native.Mathlib.Decide.{ℕ-discrete, decLt}
 use lib.IntN.{ℤ, pos, negsuc}
 use lib.ListN.{getD}
@@ -21,6 +21,21 @@ decLawful fork = decOr (ℕ-discrete fork 0) (ℕ-discrete fork 255)
 -- "Packed, a key is file number x 16,777,216 + fork x 65,536 + start block"
 unfoldable pub packed : Key → ℕ
 packed k = k .file * 16777216 + k .fork * 65536 + k .start
+
+-- the key that a packed number stands for
+abbrev pub unpacked : ℕ → Key
+unpacked number = record { file = number / 16777216; fork = number / 65536 % 256; start = number % 65536 }
+
+-- 2 to the 56
+abbrev pub keyLimit : ℕ
+keyLimit = 72057594037927936
+
+-- W-203: a packed number that is not "a key whose fork byte is wrong or which is 2 to the 56 or more"
+abbrev pub IsKey : ℕ → Type 0
+IsKey number = (number < keyLimit) × Lawful (unpacked number .fork)
+
+unfoldable pub decKey : (number : ℕ) → Dec (IsKey number)
+decKey number = Dec·and (decLt number keyLimit) (decLawful (unpacked number .fork))
 
 -- -1 where a is below b, 1 where it is above, and else the next answer
 abbrev pub ranked : ℕ → ℕ → ℤ → ℤ

@@ -4,7 +4,7 @@ ghost use Prim.Native.Nat.{_+_, _<_, _≤_};
 ghost use lib.IntN.{pos};
 ghost use lib.ListN.{length};
 ghost use Rattle.btree.specs.Decide.{says};
-ghost use Rattle.formats.specs.Key.{decLawful, packed, ranked, compared, keyAt, asked};
+ghost use Rattle.formats.specs.Key.{decLawful, packed, decKey, ranked, compared, keyAt, asked};
 use image::bytes::be16;
 use image::bytes::be32;
 use image::bytes::byte_at;
@@ -60,6 +60,16 @@ pub fn pack(file: u32, fork: u8, start: u16) -> u64
     ensures { λ r. ⌜ (r ≡ packed (asked file fork start)) × (r < 72057594037927936) ⌝ }
 {
     (file as u64) * 16_777_216 + (fork as u64) * 65_536 + (start as u64)
+}
+
+// Whether a packed number is a key's: below 2 to the 56, with a lawful fork byte.
+pub fn is_key(number: u64) -> bool
+    ensures { λ r. ⌜ r ≡ says (decKey number) ⌝ }
+{
+    if number >= 72_057_594_037_927_936 {
+        return false;
+    }
+    is_lawful((number / 65_536 % 256) as u32)
 }
 
 // The packed key that stands at a byte of the image, which has it whole.

@@ -86,11 +86,17 @@ pub fn child_place(image: &[u8], node: u32, i: u32) -> Place
     Place { node, offset }
 }
 
+// Where the data starts of the leaf record that starts at a place.
+pub fn data_at(place: Place) -> usize
+    ensures { λ r. ⌜ (r ≡ dataAt (imageOffset hfs place)) × (r < 10000000000000) ⌝ }
+{
+    (place.node as usize) * 512 + (place.offset as usize) + 8
+}
+
 // The 12 data bytes of the leaf record that starts at a place.
 pub fn data_of<'a>(image: &'a [u8], place: Place) -> &'a [u8]
     requires { ⌜ dataAt (imageOffset hfs place) + 12 ≤ length (now image) ⌝ }
     ensures { λ r. ⌜ Lies (image .entry) r (dataAt (imageOffset hfs place)) 12 ⌝ }
 {
-    let at = (place.node as usize) * 512 + (place.offset as usize);
-    part_at(image, at + 8, 12)
+    part_at(image, data_at(place), 12)
 }

@@ -17,7 +17,8 @@ use Rattle.formats.specs.Format.{recordSize, maxRecords, kindOn, kindOf, record
 use Rattle.nodes.specs.Whole.{decWholeLeaf}
 use Rattle.search.specs.Seen.{seenIn, seenFrom}
 use Rattle.extents.specs.Reader.{salvaged}
-use Rattle.vectors.specs.Bench.{All, Right}
+use Rattle.vectors.specs.Build.{All}
+use Rattle.vectors.specs.Bench.{Right}
 use Rattle.place_vectors.specs.Table.{places}
 
 pub places-right : All Right places

@@ -6,11 +6,7 @@ use lib.ListN.{replicate, set}
 use Rattle.formats.specs.Key.{asked}
 use Rattle.vectors.specs.Bench.{Case, of}
 use Rattle.vectors.specs.Bench.Asks.{check, look, sees}
-use Rattle.vectors.specs.Build.{put, keyBytes, mapNode, linkedHeader, E1, L1, twoLeaves, twoLeavesUnder}
-
--- a header and a map node
-abbrev E2 : List ℕ
-E2 = linkedHeader 1 2 0xC0 ++ mapNode 0
+use Rattle.vectors.specs.Build.{put, keyBytes, mapNode, linkedHeader, E1, E2, L1, twoLeaves, twoLeavesUnder}
 
 -- a header and two map nodes, whose numbers fall along the chain: 2, 1
 abbrev E3 : List ℕ

@@ -1,2 +1,3 @@
 pub mod Descent
 pub mod Seen
+pub mod Rows

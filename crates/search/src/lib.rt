@@ -2,4 +2,5 @@
 pub mod descent;
 pub mod halving;
 pub mod record;
+pub mod rows;
 pub mod scan;

@@ -16,8 +16,8 @@ use Rattle.btree.specs.Tests.{decDescriptor, decNoTree, wrongIn, lowestWrong, b
 use Rattle.btree.specs.Work.{checked}
 use Rattle.formats.specs.Key.{Lawful, decLawful, packed, compared, asked}
 use Rattle.formats.specs.Format.{recordSize, maxRecords, kindOn, kindOf, recordOffset, decRecords, decNodeOn}
-use Rattle.vectors.specs.Build.{E1}
-use Rattle.vectors.specs.Bench.{Asks, All, Says, Right, bench}
+use Rattle.vectors.specs.Build.{All, E1}
+use Rattle.vectors.specs.Bench.{Asks, Says, Right, bench}
 
 -- of E1 nothing but the fork byte is looked at
 any-key : (file fork start : ℕ) → Lawful fork → Says E1 (Asks.look (asked file fork start) (12 ∷ 0 ∷ 0 ∷ 0 ∷ 0 ∷ 0 ∷ 0 ∷ 0 ∷ 0 ∷ 0 ∷ 0 ∷ 0 ∷ 0 ∷ []))

@@ -47,10 +47,6 @@ Says img (halves count k end keys) = halved (λ i. i * 10 + 10) k count ≡ reco
 abbrev pub Right : Case → Type 0
 Right c = Says (c .image) (c .asks)
 
-abbrev pub All : (Case → Type 0) → List Case → Type 0
-All P [] = Unit {0}
-All P (c ∷ cs) = P c × All P cs
-
 abbrev pub of : List ℕ → Asks → Case
 of img q = record { image = img; asks = q }
 

@@ -1,8 +1,12 @@
--- Images made of zeros and of bytes put at named places.
+-- Images made of zeros and of bytes put at named places; and what holds of every case of a list.
 -- Assumes nothing.
 use mathlib.Core.List.{List, [], _∷_, _++_}
 use Prim.Native.Nat.{ℕ, suc, _-_, _/_, _%_}
 use lib.ListN.{length, set, replicate}
+
+abbrev pub All : {C : Type 0} → (C → Type 0) → List C → Type 0
+All P [] = Unit {0}
+All P (c ∷ cs) = P c × All P cs
 
 -- the bytes stored from byte i on
 abbrev pub put : ℕ → List ℕ → List ℕ → List ℕ
@@ -49,6 +53,10 @@ mapNode link = node (be32 link ++ be32 0 ++ 0x02 ∷ 0 ∷ be16 1) [] (be16 0x1F
 -- E1's header with a link, the total, and the first map byte
 abbrev pub linkedHeader : ℕ → ℕ → ℕ → List ℕ
 linkedHeader link total mapByte = put 0 (be32 link) (header (be16 0 ++ be32 0 ++ be32 0 ++ be32 0 ++ be32 0) total mapByte)
+
+-- a header and a map node
+abbrev pub E2 : List ℕ
+E2 = linkedHeader 1 2 0xC0 ++ mapNode 0
 
 -- "links 0, FF, level 1, count 1, record 07 00 00000010 0005 0064 0003 and eight zero bytes, end 0022 000E"
 abbrev onlyLeaf : List ℕ

@@ -13,7 +13,7 @@ use Rattle.formats.specs.declared.key.Key.{Key}
 use Rattle.formats.specs.Key.{asked}
 use Rattle.formats.specs.Format.{format}
 use Rattle.extents.specs.Reader.{checked, lookedUp}
-use Rattle.vectors.specs.Build.{put, be32, header, mapNode, linkedHeader, E1, L1, twoLeaves}
+use Rattle.vectors.specs.Build.{put, be32, header, E1, E2, L1, twoLeaves}
 
 pub data Call : Type 0 where
   -- the check: number, node, offset
@@ -38,16 +38,8 @@ Answers img lent (look k n) = lookupReply (lookedUp img k lent .answer) .number 
 abbrev pub Right : Case → Type 0
 Right c = Answers (c .image) (length (c .before)) (c .call) × (workLeft hfs (c .image) format (number (c .call)) (c .before) ≡ c .after)
 
-abbrev pub All : (Case → Type 0) → List Case → Type 0
-All P [] = Unit {0}
-All P (c ∷ cs) = P c × All P cs
-
 abbrev of : List ℕ → Call → List ℕ → List ℕ → Case
 of img call before after = record { image = img; call = call; before = before; after = after }
-
--- a header and a map node
-abbrev E2 : List ℕ
-E2 = linkedHeader 1 2 0xC0 ++ mapNode 0
 
 -- nine nodes, of which eight are free
 abbrev E9 : List ℕ

@@ -1,7 +1,8 @@
 //! One question to both readers, and what is shown when they differ.
 
 use crate::expected;
-use crate::lent::Lender;
+use crate::keys;
+use crate::lent::{Lender, Row};
 use crate::seed::{seed, SEED_VARIABLE};
 use images::Key;
 use std::fmt::Debug;
@@ -20,7 +21,10 @@ pub struct Tally {
     pub absent: u64,
     /// Pairs that salvage saw.
     pub seen: u64,
-    /// Checks and lookups with fewer working bytes than needed, just enough, and more.
+    /// Rows of keys, and the keys in those that were answered.
+    pub rows: u64,
+    pub row_keys: u64,
+    /// Checks and lookups, of rows too, with fewer working bytes than needed, just enough, and more.
     pub too_few: u64,
     pub enough: u64,
     pub more: u64,
@@ -42,15 +46,18 @@ impl Comparison {
         self.tally
     }
 
-    /// Compares the verdicts on an image, and the answers for each key.
-    pub fn ask(&mut self, image: &[u8], keys: impl IntoIterator<Item = Key>) {
+    /// Compares the verdicts on an image, the answers for each key, and those for all of them at once.
+    pub fn ask(&mut self, image: &[u8], asked: impl IntoIterator<Item = Key>) {
         self.tally.images += 1;
         self.check(image);
-        for key in keys {
+        let mut row = Vec::new();
+        for key in asked {
             self.tally.pairs += 1;
             self.lookup(image, key);
             self.salvage(image, key);
+            row.push(keys::packed(key));
         }
+        self.ask_at_once(image, row);
     }
 
     fn check(&mut self, image: &[u8]) {
@@ -74,6 +81,27 @@ impl Comparison {
         self.same(image, key, got, expected::salvage(image, key));
         if let hfs_btree::SalvageAnswer::Seen { .. } = got.answer {
             self.tally.seen += 1;
+        }
+    }
+
+    /// The keys with some numbers that are none among them, in any order, with fewer results than
+    /// keys, as many, or more.
+    pub fn ask_at_once(&mut self, image: &[u8], keys: Vec<u64>) {
+        let row = self.lender.row(keys);
+        let Row { keys, results } = &row;
+        let asked = (keys.len(), results.len(), "keys and results");
+        let got = self.with_lent(
+            image,
+            asked,
+            |work| {
+                let mut left = results.clone();
+                (hfs_btree::lookup_many(image, keys, &mut left, work), left)
+            },
+            |work| expected::lookup_many(image, keys, results.clone(), work),
+        );
+        self.tally.rows += 1;
+        if got.0.number == 0 {
+            self.tally.row_keys += keys.len() as u64;
         }
     }
 

@@ -5,8 +5,7 @@ use images::Key;
 use std::ops::Range;
 
 pub fn check(image: &[u8], work: &mut [u8]) -> Verdict {
-    let reference::Verdict { number, place: said } = reference::check(image, work);
-    Verdict { number, place: place(said) }
+    verdict(reference::check(image, work))
 }
 
 pub fn lookup(image: &[u8], key: Key, work: &mut [u8]) -> Lookup {
@@ -23,6 +22,17 @@ pub fn lookup(image: &[u8], key: Key, work: &mut [u8]) -> Lookup {
     Lookup { answer, compared, path, path_len, data: data(image, said.data) }
 }
 
+/// The verdict, and the results as they are left.
+pub fn lookup_many(
+    image: &[u8],
+    keys: &[u64],
+    mut results: Vec<u32>,
+    work: &mut [u8],
+) -> (Verdict, Vec<u32>) {
+    let said = reference::lookup_many(image, keys, &mut results, work);
+    (verdict(said), results)
+}
+
 pub fn salvage(image: &[u8], key: Key) -> Salvage {
     let said = reference::salvage(image, key.file, key.fork, key.start);
     let answer = match said.answer {
@@ -35,6 +45,11 @@ pub fn salvage(image: &[u8], key: Key) -> Salvage {
         }
     };
     Salvage { answer, data: data(image, said.data) }
+}
+
+fn verdict(said: reference::Verdict) -> Verdict {
+    let reference::Verdict { number, place: said } = said;
+    Verdict { number, place: place(said) }
 }
 
 fn place(said: reference::Place) -> Place {

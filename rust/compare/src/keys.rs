@@ -50,6 +50,10 @@ fn key_of(record: &[u8]) -> Key {
     Key::new(file, record[1], u16::from_be_bytes([record[6], record[7]]))
 }
 
+pub fn packed(key: Key) -> u64 {
+    hfs_btree::packed(key.file, key.fork, key.start)
+}
+
 /// Some of the keys, and of all lawful ones one at random.
 pub fn some(rng: &mut Rng, keys: &[Key], count: usize) -> Vec<Key> {
     let mut chosen: Vec<Key> = (0..count).map(|_| keys[rng.index(keys.len())]).collect();

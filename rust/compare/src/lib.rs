@@ -8,4 +8,5 @@ mod lent;
 mod seed;
 
 pub use comparison::{Comparison, Tally};
+pub use keys::packed;
 pub use seed::seed;

@@ -28,6 +28,7 @@ fn main() {
     });
     let total = total.into_inner().expect("no thread panicked");
     println!("{} images, {} image-and-key pairs, no difference", total.images, total.pairs);
+    println!("{} rows of keys, {} keys in those answered", total.rows, total.row_keys);
     let Tally { too_few, enough, more, .. } = total;
     println!("working bytes lent: {too_few} times too few, {enough} just enough, {more} more");
     assert!(total.pairs >= LEAST_PAIRS, "fewer than {LEAST_PAIRS} pairs");
@@ -50,6 +51,8 @@ fn add(total: &Mutex<Tally>, part: Tally) {
     let mut total = total.lock().expect("no thread panicked");
     total.images += part.images;
     total.pairs += part.pairs;
+    total.rows += part.rows;
+    total.row_keys += part.row_keys;
     total.too_few += part.too_few;
     total.enough += part.enough;
     total.more += part.more;

@@ -13,6 +13,17 @@ extern "C" {
         out: *mut [u32; 13],
         data: *mut [u8; 12],
     );
+    fn hfs_lookup_many(
+        image: *const u8,
+        len: usize,
+        keys: *const u64,
+        keys_len: usize,
+        results: *mut u32,
+        results_len: usize,
+        work: *mut u8,
+        work_len: usize,
+        out: *mut [u32; 3],
+    );
     fn hfs_salvage(
         image: *const u8,
         len: usize,
@@ -53,6 +64,20 @@ pub fn lookup(
     // and `data` are arrays of their own.
     unsafe { hfs_lookup(bytes, len, file, fork, start, lent, lent_len, &mut out, &mut data) };
     (out, data)
+}
+
+pub fn lookup_many(image: &[u8], keys: &[u64], results: &mut [u32], work: &mut [u8]) -> [u32; 3] {
+    let mut out = [UNWRITTEN; 3];
+    let (bytes, len) = (image.as_ptr(), image.len());
+    let (asked, asked_len) = (keys.as_ptr(), keys.len());
+    let (row, row_len) = (results.as_mut_ptr(), results.len());
+    let (lent, lent_len) = (work.as_mut_ptr(), work.len());
+    // SAFETY: the image and the keys are live slices and only read, `results` and `work` are live
+    // slices lent to write, and `out` is an array of its own.
+    unsafe {
+        hfs_lookup_many(bytes, len, asked, asked_len, row, row_len, lent, lent_len, &mut out)
+    };
+    out
 }
 
 pub fn salvage(image: &[u8], file: u32, fork: u8, start: u16) -> ([u32; 3], [u8; 12]) {

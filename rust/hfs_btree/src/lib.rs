@@ -1,8 +1,8 @@
 //! The proved reader of HFS extents overflow files, as safe functions on any bytes.
 //!
-//! An image need not have been checked before: `lookup` checks it whole, and `salvage` trusts no node.
-//! `check` and `lookup` work in bytes that the caller lends, one bit for each node of the image;
-//! [`needed_work`] says how many that is.
+//! An image need not have been checked before: `lookup` and `lookup_many` check it whole, and `salvage`
+//! trusts no node. `check` and the lookups work in bytes that the caller lends, one bit for each node
+//! of the image; [`needed_work`] says how many that is.
 
 mod archive;
 
@@ -16,6 +16,11 @@ pub const fn needed_work(image_len: usize) -> usize {
 pub struct Place {
     pub node: u32,
     pub offset: u32,
+}
+
+/// The packed number of a key, by which [`lookup_many`] is asked; numeric order is key order.
+pub const fn packed(file: u32, fork: u8, start: u16) -> u64 {
+    (file as u64) << 24 | (fork as u64) << 16 | start as u64
 }
 
 /// The first fault of an image by the order of tests, or 0 at node 0, offset 0 if it is sound.
@@ -53,6 +58,28 @@ pub struct Lookup {
     pub path_len: u32,
     /// The data of a found record, else zeros.
     pub data: [u8; 12],
+}
+
+/// What a result of [`lookup_many`] says of its key.
+#[derive(Clone, Copy, Debug, PartialEq, Eq)]
+pub enum KeyResult {
+    /// The byte of the image where the record's 12 data bytes start.
+    Found {
+        data_at: usize,
+    },
+    Absent,
+    /// The number is no key: its fork byte is neither 00 nor FF, or it is 2 to the 56 or more.
+    NoKey,
+}
+
+impl From<u32> for KeyResult {
+    fn from(result: u32) -> KeyResult {
+        match result {
+            0 => KeyResult::Absent,
+            1 => KeyResult::NoKey,
+            place => KeyResult::Found { data_at: place as usize },
+        }
+    }
 }
 
 /// Which of seen, not seen or refused a salvage came to.
@@ -106,6 +133,17 @@ pub fn lookup(image: &[u8], file: u32, fork: u8, start: u16, work: &mut [u8]) ->
         _ => Answer::Refused { number, place },
     };
     Lookup { answer, compared, path, path_len, data }
+}
+
+/// What stands under each of many keys of a sound image, by their [`packed`] numbers?
+///
+/// The image is checked once: `work` is lent to that check. If the number answered is 0, there is a
+/// result for each key, and `KeyResult::from` says what it says; results beyond the keys stay. With
+/// any other number no result is written. It is 15 if there are fewer results than keys, which is
+/// tested first and leaves `work` as it was, and else the check's own.
+pub fn lookup_many(image: &[u8], keys: &[u64], results: &mut [u32], work: &mut [u8]) -> Verdict {
+    let [number, node, offset] = archive::lookup_many(image, keys, results, work);
+    Verdict { number, place: Place { node, offset } }
 }
 
 /// What can be seen under a key, in an image of any state? Seen proves nothing: a freed node may

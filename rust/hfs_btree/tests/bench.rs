@@ -1,6 +1,9 @@
 //! The smallest images of the paper's bench, with the paper's answers.
 
-use hfs_btree::{needed_work, salvage, Answer, Lookup, Place, Salvage, SalvageAnswer, Verdict};
+use hfs_btree::{
+    lookup_many, needed_work, packed, salvage, Answer, KeyResult, Lookup, Place, Salvage,
+    SalvageAnswer, Verdict,
+};
 use images::bench::{
     e1, e1_with_map_byte, index_with, l1, l1_with_back_link_1, leaf_with, two_leaves,
     two_leaves_with_levels, two_leaves_with_pointer,
@@ -54,6 +57,50 @@ fn lookups() {
     assert_eq!(lookup(&l1(), 16, 0x01, 5), refused);
     let refused = answered(Answer::Refused { number: 7, place: at(1, 4) });
     assert_eq!(lookup(&l1_with_back_link_1(), 16, 0x00, 5), refused);
+}
+
+#[test]
+fn packed_keys() {
+    assert_eq!(packed(16, 0x00, 9), 268_435_465);
+    assert_eq!(packed(16, 0xFF, 0), 285_147_136);
+    assert_eq!(packed(17, 0x00, 0), 285_212_672);
+}
+
+#[test]
+fn many_keys() {
+    let left = |image: &[u8], keys: &[u64], results: &[u32], work: &[u8]| {
+        let (mut results, mut work) = (results.to_vec(), work.to_vec());
+        let said = lookup_many(image, keys, &mut results, &mut work);
+        (said, results, work)
+    };
+    let keys = [packed(16, 0x00, 5), packed(16, 0xFF, 5), packed(16, 0x01, 5), 1 << 56];
+    // Data stand 8 bytes behind the record's start, which is byte 14 of node 1; the fifth result stays.
+    let answered = (verdict(0, 0, 0), vec![512 + 14 + 8, 0, 1, 1, 9], vec![0xC0, 0x2B]);
+    assert_eq!(left(&l1(), &keys, &[9; 5], &[0x2A, 0x2B]), answered);
+    // Leaf 3 has two records, leaf 2 one; a key may come twice.
+    let keys = [packed(17, 0x00, 0), packed(16, 0x00, 5), packed(16, 0xFF, 0), packed(17, 0x00, 0)];
+    let places = vec![3 * 512 + 34 + 8, 2 * 512 + 14 + 8, 3 * 512 + 14 + 8, 3 * 512 + 34 + 8];
+    let answered = (verdict(0, 0, 0), places, vec![0xF0]);
+    assert_eq!(left(&two_leaves(), &keys, &[9; 4], &[0x2A]), answered);
+    // Fewer results than keys: before the length, before too few bytes and before a fault.
+    for (image, work) in
+        [(l1(), vec![]), (vec![0; 511], vec![0x2A]), (l1_with_back_link_1(), vec![0x2A])]
+    {
+        let refused = (verdict(15, 0, 0), vec![9; 3], work.clone());
+        assert_eq!(left(&image, &keys, &[9; 3], &work), refused);
+    }
+    assert_eq!(left(&l1(), &keys, &[9; 4], &[]), (verdict(16, 0, 0), vec![9; 4], vec![]));
+    let faulty = (verdict(7, 1, 4), vec![9; 4], vec![0x00]);
+    assert_eq!(left(&l1_with_back_link_1(), &keys, &[9; 4], &[0x2A]), faulty);
+    assert_eq!(left(&[0; 511], &[], &[], &[]), (verdict(1, 0, 0), vec![], vec![]));
+    assert_eq!(left(&e1(), &[], &[], &[0x2A]), (verdict(0, 0, 0), vec![], vec![0x80]));
+}
+
+#[test]
+fn results_say() {
+    assert_eq!(KeyResult::from(0), KeyResult::Absent);
+    assert_eq!(KeyResult::from(1), KeyResult::NoKey);
+    assert_eq!(KeyResult::from(534), KeyResult::Found { data_at: 534 });
 }
 
 #[test]

@@ -3,6 +3,9 @@
 pub const KEY_SIZE: usize = 8;
 pub const KEY_LENGTH: u8 = 7;
 
+/// The bits of a file number, a fork byte and a start block.
+const PACKED_BITS: u32 = 32 + 8 + 16;
+
 /// A key of an extents record, without its length byte.
 #[derive(Clone, Copy, Debug, PartialEq, Eq)]
 pub struct Key {
@@ -25,4 +28,15 @@ impl Key {
 
 pub fn is_lawful_fork(fork: u8) -> bool {
     fork == 0x00 || fork == 0xFF
+}
+
+/// The bytes of a packed key as they stand in a record, length byte first.
+pub fn packed_key_bytes(packed: u64) -> [u8; KEY_SIZE] {
+    let [_, file @ .., fork, start_high, start_low] = packed.to_be_bytes();
+    [KEY_LENGTH, fork, file[0], file[1], file[2], file[3], start_high, start_low]
+}
+
+/// Whether a number is what a key with a lawful fork byte packs to.
+pub fn is_lawful_packed(packed: u64) -> bool {
+    packed >> PACKED_BITS == 0 && is_lawful_fork((packed >> 16) as u8)
 }

@@ -1,6 +1,6 @@
 //! How leaf and index nodes lay out their keyed records.
 
-use crate::key::{is_lawful_fork, Key, KEY_LENGTH, KEY_SIZE};
+use crate::key::{is_lawful_fork, packed_key_bytes, Key, KEY_LENGTH, KEY_SIZE};
 use crate::node::{kind, level, record_count, reserved, Node, RECORDS_AT};
 use crate::place::Place;
 use crate::position::Position;
@@ -112,9 +112,11 @@ pub fn child_at(record: usize) -> usize {
     Index::start(record) + KEY_SIZE
 }
 
-/// The record of a leaf with ascending keys that has the asked key.
+/// The record of a well-formed leaf with ascending keys that has the asked key.
 pub fn find_in_leaf(node: &Node, asked: u64) -> Option<usize> {
-    Leaf::records(node).binary_search_by_key(&asked, packed_key).ok()
+    // Among so few records, comparing the bytes of each key is faster than halving by key order.
+    let asked = packed_key_bytes(asked);
+    Leaf::records(node).iter().position(|record| record[..KEY_SIZE] == asked)
 }
 
 /// Where the data of a leaf record stand within the node.

@@ -13,9 +13,10 @@ pub const LEAF_TOTALS: u32 = 8;
 pub const MAP_BITS: u32 = 9;
 pub const FREE_COUNT: u32 = 10;
 pub const ASKED_FORK: u32 = 11;
+pub const RESULT_ROW: u32 = 15;
 pub const WORKING_BYTES: u32 = 16;
 
-/// The outcome of a check: a number of the table and the place that belongs to it.
+/// What a check or a call for many keys answers: a number and the place that belongs to it.
 #[derive(Clone, Copy, Debug, PartialEq, Eq)]
 pub struct Verdict {
     pub number: u32,

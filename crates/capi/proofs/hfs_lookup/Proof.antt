@@ -3,7 +3,7 @@ use mathlib.Core.Path.{ap, _∙_}
 use Rattle.btree.specs.declared.Lookup.{Lookup}
 use Rattle.btree.specs.Numbers.{lookupNumbers}
 use Rattle.extents.specs.Reader.{foundPart}
-use Rattle.capi.specs.Written.{dataBytes}
+use Rattle.replies.specs.Written.{dataBytes}
 use borrow.Author.Needs.{needs}
 use Rattle.capi.proofs.hfs_lookup.Statement.{statement}
 use Rattle.capi.proofs.hfs_lookup.Tie as tie

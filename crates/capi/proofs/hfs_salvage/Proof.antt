@@ -3,7 +3,7 @@ use mathlib.Core.Path.{ap, _∙_}
 use Rattle.btree.specs.declared.Salvage.{Salvage}
 use Rattle.btree.specs.Numbers.{salvageReply, replyNumbers}
 use Rattle.extents.specs.Reader.{seenPart}
-use Rattle.capi.specs.Written.{dataBytes}
+use Rattle.replies.specs.Written.{dataBytes}
 use borrow.Author.Needs.{needs}
 use Rattle.capi.proofs.hfs_salvage.Statement.{statement}
 use Rattle.capi.proofs.hfs_salvage.Tie as tie

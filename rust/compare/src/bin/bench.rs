@@ -1,23 +1,38 @@
-//! Times the proved reader and the reference on sound images of 1 to 65,536 nodes and in one full
-//! leaf; nothing is asserted.
+//! Times the proved reader and the reference on sound images of 1 to 65,536 nodes, under many keys at
+//! once, and in one full leaf; nothing is asserted.
 
+use compare::packed;
 use images::node::MOST_LEAF_RECORDS;
-use images::{bench, samples, Built, Key};
+use images::{bench, samples, Built, Key, Rng};
 use std::hint::black_box;
 use std::time::Instant;
 
 const RUNS: usize = 21;
+/// Where a run takes seconds.
+const FEW_RUNS: usize = 5;
 const CALLS: usize = 10_000;
 
 /// The sizes at which a check's cost is shown, the largest last.
 const SIZES: [usize; 4] = [1, 100, 6_000, MOST_NODES];
 const MOST_NODES: usize = 65_536;
 
+/// How many keys are looked up at once, the most last.
+const KEY_COUNTS: [usize; 3] = [1, 1_000, MOST_KEYS];
+const MOST_KEYS: usize = 100_000;
+
+/// How many keys are looked up at once and one by one.
+const SINGLE_COUNTS: [usize; 2] = [1, 100];
+
 fn main() {
     println!("nodes in a random order");
-    largest(&samples::largest());
+    let built = samples::largest();
+    largest(&built);
+    many_keys(&built);
+    one_by_one(&built);
     println!("nodes in the order of their levels");
-    largest(&samples::largest_in_order());
+    let built = samples::largest_in_order();
+    largest(&built);
+    many_keys(&built);
     growth();
     one_leaf();
 }
@@ -68,6 +83,54 @@ fn growth() {
     }
 }
 
+/// Rows of keys of a large image, in a random order, each looked up after one check.
+fn many_keys(built: &Built) {
+    println!("keys at once, {} nodes, median of {RUNS}", built.total());
+    let row = any_keys(built, MOST_KEYS);
+    let image = || black_box(built.image.as_slice());
+    let [mut ours, mut theirs] = lent(&built.image);
+    let [mut results, mut their_results] = [vec![0; MOST_KEYS], vec![0; MOST_KEYS]];
+    for count in KEY_COUNTS {
+        let keys = || black_box(&row[..count]);
+        report(
+            &count.to_string(),
+            || hfs_btree::lookup_many(image(), keys(), &mut results, &mut ours),
+            || reference::lookup_many(image(), keys(), &mut their_results, &mut theirs),
+        );
+    }
+}
+
+/// What a row saves: the same keys one by one, with a check for each, by the proved reader alone.
+fn one_by_one(built: &Built) {
+    println!("keys at once and one by one, {} nodes, median of {FEW_RUNS}", built.total());
+    let image = || black_box(built.image.as_slice());
+    let [mut at_once, mut singly] = lent(&built.image);
+    for count in SINGLE_COUNTS {
+        let keys = any_keys(built, count);
+        let mut results = vec![0; count];
+        let times = sorted_times(
+            FEW_RUNS,
+            || hfs_btree::lookup_many(image(), &keys, &mut results, &mut at_once),
+            || keys.iter().for_each(|&key| look_up(image(), key, &mut singly)),
+        );
+        let [row, single] = times.map(|times| median(&times));
+        let ratio = row / single;
+        println!("{count:6} at once {row:8.3} ms, one by one {single:9.3} ms, ratio {ratio:.3}");
+    }
+}
+
+/// Packed keys of records, picked at random.
+fn any_keys(built: &Built, count: usize) -> Vec<u64> {
+    let mut rng = Rng::new(7);
+    let mut any_key = || built.records[rng.index(built.records.len())].key;
+    (0..count).map(|_| packed(any_key())).collect()
+}
+
+fn look_up(image: &[u8], key: u64, work: &mut [u8]) {
+    let (file, fork, start) = ((key >> 24) as u32, (key >> 16) as u8, key as u16);
+    black_box(hfs_btree::lookup(image, file, fork, start, work));
+}
+
 /// A lookup checks the image first; where that takes least, the search after it shows most.
 fn one_leaf() {
     println!("one leaf of {MOST_LEAF_RECORDS} records, {CALLS} calls, median of {RUNS}");
@@ -103,7 +166,7 @@ fn repeated<T>(calls: usize, mut call: impl FnMut(u32) -> T) -> impl FnMut() {
 }
 
 fn report<A, B>(name: &str, proved: impl FnMut() -> A, reference: impl FnMut() -> B) {
-    let [proved, reference] = sorted_times(proved, reference);
+    let [proved, reference] = sorted_times(RUNS, proved, reference);
     let (ours, theirs) = (median(&proved), median(&reference));
     let ratio = ours / theirs;
     // On a busy machine the fastest runs say more than the median.
@@ -114,16 +177,17 @@ fn report<A, B>(name: &str, proved: impl FnMut() -> A, reference: impl FnMut() -
 }
 
 fn medians<A, B>(proved: impl FnMut() -> A, reference: impl FnMut() -> B) -> [f64; 2] {
-    sorted_times(proved, reference).map(|times| median(&times))
+    sorted_times(RUNS, proved, reference).map(|times| median(&times))
 }
 
 /// Milliseconds of each run, in turns, so that a change in the machine's speed hits both alike.
 fn sorted_times<A, B>(
+    runs: usize,
     mut proved: impl FnMut() -> A,
     mut reference: impl FnMut() -> B,
 ) -> [Vec<f64>; 2] {
     let mut times = [Vec::new(), Vec::new()];
-    for _ in 0..RUNS {
+    for _ in 0..runs {
         times[0].push(milliseconds(&mut proved));
         times[1].push(milliseconds(&mut reference));
     }

@@ -6,6 +6,9 @@ use crate::keys;
 use images::spoil::by_number;
 use images::{build, samples, Plan, Rng};
 
+/// So many keys are looked up at once.
+const MANY: usize = 100_000;
+
 /// The largest sound images, under keys of all their parts.
 pub fn largest(comparison: &mut Comparison, seed: u64) {
     let mut rng = Rng::new(seed);
@@ -21,6 +24,8 @@ pub fn largest(comparison: &mut Comparison, seed: u64) {
     ] {
         let asked = keys::with_neighbours(&built);
         comparison.ask(&built.image, keys::some(&mut rng, &asked, count));
+        let many = keys::some(&mut rng, &asked, MANY);
+        comparison.ask_at_once(&built.image, many.into_iter().map(keys::packed).collect());
     }
 }
 

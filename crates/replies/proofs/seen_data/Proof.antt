@@ -1,7 +1,7 @@
 -- `seen_data` meets its contract. Assumes nothing.
 use borrow.Author.Needs.{needs}
-use Rattle.capi.proofs.seen_data.Statement.{statement}
-use Rattle.capi.proofs.seen_data.Tie as tie
+use Rattle.replies.proofs.seen_data.Statement.{statement}
+use Rattle.replies.proofs.seen_data.Tie as tie
 
 enum-known-seen : tie.Need-enum-known-seen
 enum-known-seen c = search needs

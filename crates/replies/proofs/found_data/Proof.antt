@@ -1,7 +1,7 @@
 -- `found_data` meets its contract. Assumes nothing.
 use borrow.Author.Needs.{needs}
-use Rattle.capi.proofs.found_data.Statement.{statement}
-use Rattle.capi.proofs.found_data.Tie as tie
+use Rattle.replies.proofs.found_data.Statement.{statement}
+use Rattle.replies.proofs.found_data.Tie as tie
 
 enum-known-answer : tie.Need-enum-known-answer
 enum-known-answer c = search needs

@@ -1,12 +1,13 @@
 -- `record_data` meets its contract. The loop keeps that the bytes before k are the image's. Assumes nothing.
-use Prim.Native.Nat.{ℕ, _+_, _-_, _*_, _≤_, _<_}
-use mathlib.Core.Path.{_≡_}
+use Prim.Native.Nat.{ℕ, _+_, _-_, _≤_, _<_}
+use mathlib.Core.Path.{_≡_, ap, _∙_}
 use native.Mathlib.Omega.{arith}
-use lib.ListN.{length, getD, length-set}
-use Rattle.capi.proofs.Data.{one-more, twelve-bytes}
+use lib.ListN.{length, getD, take, drop, length-set}
+use Rattle.btree.specs.Lists.{padded}
+use Rattle.replies.proofs.Data.{one-more, twelve-bytes}
 use borrow.Author.Needs.{needs}
-use Rattle.capi.proofs.record_data.Statement.{statement}
-use Rattle.capi.proofs.record_data.Tie as tie
+use Rattle.replies.proofs.record_data.Statement.{statement}
+use Rattle.replies.proofs.record_data.Tie as tie
 
 abbrev Inv-loop : tie.InvT-loop
 Inv-loop image at data₀ k₀ «data» k = (k ≤ 12) × (length «data» ≡ 12) × ((j : ℕ) → j < k → getD «data» j 0 ≡ getD image (at + j) 0)
@@ -14,20 +15,8 @@ Inv-loop image at data₀ k₀ «data» k = (k ≤ 12) × (length «data» ≡ 1
 abbrev μ-loop : tie.MeasureT-loop
 μ-loop image at data₀ k₀ «data» k = 12 - k
 
-cast-at : tie.Need-cast-at Inv-loop μ-loop
-cast-at c = search needs
-
-mul-at : tie.Need-mul-at Inv-loop μ-loop
-mul-at c = search needs
-
-cast-at-2 : tie.Need-cast-at-2 Inv-loop μ-loop
-cast-at-2 c = search needs
-
-add-at : tie.Need-add-at Inv-loop μ-loop
-add-at c = search needs
-
-add-at-2 : tie.Need-add-at-2 Inv-loop μ-loop
-add-at-2 c = search needs
+data-at-requires : tie.Need-data-at-requires Inv-loop μ-loop
+data-at-requires c κs = search needs
 
 loop-holds : tie.Need-loop-holds Inv-loop μ-loop
 loop-holds c = search needs
@@ -62,8 +51,9 @@ loop-again c =
 returns : tie.Need-returns Inv-loop μ-loop
 returns c =
     let l = c .before in
-    let a = l .before .before .before .before .args in
-    twelve-bytes (a .image .now) _ (a .place .node * 512 + a .place .offset + 8) (l .loop .inv .1) (λ j u. l .loop .inv .2 j (omega arith))
+    let a = l .before .before .before .args in
+    twelve-bytes (a .image .now) _ _ (l .loop .inv .1) (λ j u. l .loop .inv .2 j (omega arith))
+    ∙ ap (λ (n : ℕ). padded 12 (take 12 (drop n (a .image .now)))) (l .before .data-at .ensures .0)
 
 pub record-data-spec : {M : Type 1} → statement M
 record-data-spec =
@@ -71,11 +61,7 @@ record-data-spec =
     (tie.spec
     Inv-loop
     μ-loop
-    cast-at
-    mul-at
-    cast-at-2
-    add-at
-    add-at-2
+    data-at-requires
     loop-holds
     add-byte-at
     byte-at-requires

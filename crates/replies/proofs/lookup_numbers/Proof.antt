@@ -1,10 +1,10 @@
 -- `lookup_numbers` meets its contract. Assumes nothing.
 use mathlib.Core.Path.{_≡_}
 use lib.ListN.{length}
-use Rattle.capi.proofs.Data.{eight-nodes}
+use Rattle.replies.proofs.Data.{eight-nodes}
 use borrow.Author.Needs.{needs}
-use Rattle.capi.proofs.lookup_numbers.Statement.{statement}
-use Rattle.capi.proofs.lookup_numbers.Tie as tie
+use Rattle.replies.proofs.lookup_numbers.Statement.{statement}
+use Rattle.replies.proofs.lookup_numbers.Tie as tie
 
 long : (c : tie.Start) → length (c .args .found .path .nodes) ≡ 8
 long c = search needs

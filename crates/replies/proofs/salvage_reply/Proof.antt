@@ -1,7 +1,7 @@
 -- `salvage_reply` meets its contract. Assumes nothing.
 use borrow.Author.Needs.{needs}
-use Rattle.capi.proofs.salvage_reply.Statement.{statement}
-use Rattle.capi.proofs.salvage_reply.Tie as tie
+use Rattle.replies.proofs.salvage_reply.Statement.{statement}
+use Rattle.replies.proofs.salvage_reply.Tie as tie
 
 enum-known-seen : tie.Need-enum-known-seen
 enum-known-seen c = search needs

@@ -1,7 +1,7 @@
 -- `lookup_reply` meets its contract. Assumes nothing.
 use borrow.Author.Needs.{needs}
-use Rattle.capi.proofs.lookup_reply.Statement.{statement}
-use Rattle.capi.proofs.lookup_reply.Tie as tie
+use Rattle.replies.proofs.lookup_reply.Statement.{statement}
+use Rattle.replies.proofs.lookup_reply.Tie as tie
 
 enum-known-answer : tie.Need-enum-known-answer
 enum-known-answer c = search needs

@@ -1,0 +1,1 @@
+// Rows of keys, and the results afterwards, proved: see specs/Table.antt and proofs/Table.antt.

@@ -1,0 +1,55 @@
+//! What stands under each of many keys of a sound image.
+
+use crate::check::{open, SoundImage};
+use crate::halving::halve;
+use crate::key::is_lawful_packed;
+use crate::node::range_in_image;
+use crate::place::Place;
+use crate::record::{child, find_in_leaf, leaf_data, Index};
+use crate::verdict::{Verdict, RESULT_ROW};
+
+// Both lie in the header node, so no record's data can start there.
+const ABSENT: u32 = 0;
+const UNLAWFUL: u32 = 1;
+
+/// Looks every packed key up, after checking the whole image once.
+///
+/// If it answers 0, there is one result for each key: where in the image the 12 data bytes start, 0
+/// if the key is absent, 1 if it is no packed key with a lawful fork byte. Results beyond the keys
+/// stay, and any other answer leaves all of them as they were. It treats `work` as
+/// [`check`](crate::check) does, and leaves it as it was where there are fewer results than keys.
+pub fn lookup_many(image: &[u8], keys: &[u64], results: &mut [u32], work: &mut [u8]) -> Verdict {
+    if results.len() < keys.len() {
+        return Verdict::new(RESULT_ROW, Place::START);
+    }
+    match open(image, work) {
+        Ok(sound) => {
+            for (result, &asked) in results.iter_mut().zip(keys) {
+                *result = result_of(&sound, asked);
+            }
+            Verdict::SOUND
+        }
+        Err(fault) => fault,
+    }
+}
+
+fn result_of(sound: &SoundImage, asked: u64) -> u32 {
+    if !is_lawful_packed(asked) {
+        return UNLAWFUL;
+    }
+    // The longest image has 2 to the 25 bytes, so that every place in it fits.
+    data_start(sound, asked).map_or(ABSENT, |start| start as u32)
+}
+
+/// Where in the image the data under a key start, by a descent that keeps only its last node.
+fn data_start(sound: &SoundImage, asked: u64) -> Option<usize> {
+    let levels_above_leaves = sound.header.depth.checked_sub(1)?;
+    let mut number = sound.header.root as usize;
+    for _ in 0..levels_above_leaves {
+        let pointers = Index::records(&sound.nodes[number]);
+        let record = halve(pointers, asked).reached?;
+        number = child(&pointers[record]) as usize;
+    }
+    let record = find_in_leaf(&sound.nodes[number], asked)?;
+    Some(range_in_image(number, leaf_data(record)).start)
+}
