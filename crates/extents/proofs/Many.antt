@@ -1,7 +1,7 @@
 -- A lookup of many keys keeps its promise: what is answered, and which results are written.
 -- Assumes nothing.
 use mathlib.Core.Path.{_≡_, sym, ap, fun-ext, _∙_}
-use mathlib.Core.Logic.{_≢_}
+use mathlib.Core.Logic.{_≢_, _⊎_, inl, inr, ⊎-elim}
 use mathlib.Core.List.{List}
 use Prim.Native.Nat.{ℕ, _≤_, _<_}
 use native.Mathlib.Omega.{arith}
@@ -77,19 +77,13 @@ module _ (img : List ℕ) (b : Bytes img) (keys entry : List ℕ) (lent : ℕ) w
         let a = sym number-is ∙ z in
         rw (row ∙ results-filled a, filled-at (result img lent) keys entry i h) (result-says img b lent (getD keys i 0) (zero-checked a .1))
 
-    beyond : drop (length keys) exit ≡ drop (length keys) entry
-    beyond = go (ℕ-discrete (r .number) 0)
+    -- the row is as it was, or has its results
+    either : (exit ≡ entry) ⊎ ((length keys ≤ length entry) × (exit ≡ filled (result img lent) keys entry))
+    either = go (ℕ-discrete (r .number) 0)
       where
-        go : Dec (r .number ≡ 0) → drop (length keys) exit ≡ drop (length keys) entry
-        go (yes z) = ap (drop (length keys)) (row ∙ results-filled (sym number-is ∙ z)) ∙ filled-beyond (result img lent) keys entry
-        go (no n) = ap (drop (length keys)) (row ∙ results-stay (λ z. n (number-is ∙ z)))
-
-    row-length : length exit ≡ length entry
-    row-length = go (ℕ-discrete (r .number) 0)
-      where
-        go : Dec (r .number ≡ 0) → length exit ≡ length entry
-        go (yes z) = let a = sym number-is ∙ z in ap length (row ∙ results-filled a) ∙ filled-whole (result img lent) keys entry (zero-checked a .0)
-        go (no n) = ap length (row ∙ results-stay (λ z. n (number-is ∙ z)))
+        go : Dec (r .number ≡ 0) → (exit ≡ entry) ⊎ ((length keys ≤ length entry) × (exit ≡ filled (result img lent) keys entry))
+        go (yes z) = let a = sym number-is ∙ z in inr (zero-checked a .0, row ∙ results-filled a)
+        go (no n) = inl (row ∙ results-stay (λ z. n (number-is ∙ z)))
 
     many-says : ManySays img keys entry exit lent r
     many-says =
@@ -98,8 +92,8 @@ module _ (img : List ℕ) (b : Bytes img) (keys entry : List ℕ) (lent : ℕ) w
           ofOthers = λ h. check-says hfs img format lent fits r (is ∙ answer-checked h);
           unwritten = λ n. row ∙ results-stay (λ z. n (number-is ∙ z));
           each = each;
-          beyond = beyond;
-          rowLength = row-length;
+          beyond = ⊎-elim (ap (drop (length keys))) (λ (h, e). ap (drop (length keys)) e ∙ filled-beyond (result img lent) keys entry) either;
+          rowLength = ⊎-elim (ap length) (λ (h, e). ap length e ∙ filled-whole (result img lent) keys entry h) either;
         }
 
   -- what a lookup of many keys promises
