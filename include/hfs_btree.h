@@ -1,16 +1,21 @@
 /*
- * A proved reader of the extents overflow file of an HFS volume.
+ * A proved reader of the extents overflow file of an HFS or HFS Plus volume.
  *
  * Any bytes are an image, and nobody has to have checked them first. An image is only read. No call
  * allocates, keeps anything or fails: each answers by a number and a place, and writes every element
  * of `out` and `data`, whatever the answer. `image`, `keys`, `results`, `work`, `out` and `data` do not
  * overlap, and none is NULL, not even an empty image, no keys or no working bytes.
  *
- * A check and the lookups work in bytes that the caller lends, with any contents: one bit for each node
- * of the image, so HFS_WORK_BYTES(len) of them, at most HFS_MOST_WORK_BYTES for any image that is not
- * refused by its length. What a call leaves there:
+ * hfs_check, hfs_lookup, hfs_lookup_many and hfs_salvage read HFS. The calls with hfs_extents_ in their
+ * names read the edition and the node size that the caller says: HFS_EDITION_HFS with nodes of 512
+ * bytes, or HFS_EDITION_HFS_PLUS with 512, 1,024, 2,048, 4,096, 8,192, 16,384 or 32,768. Anything else
+ * is 25, before any other test.
  *
- *  11, 15, 1, 16      all bytes as they were
+ * A check and the lookups work in bytes that the caller lends, with any contents: one bit for each node
+ * of the image, so HFS_WORK_BYTES(len) of them, or HFS_EXTENTS_WORK_BYTES(len, node_size), at most
+ * HFS_MOST_WORK_BYTES for any image that is not refused by its length. What a call leaves there:
+ *
+ *  25, 11, 15, 1, 16  all bytes as they were
  *  2 to 10            the needed bytes zero
  *  0, 12              in the needed bytes the bits of the nodes in use are set and no others: node n
  *                     has bit 7 - n % 8 of byte n / 8, so the top bit of a byte comes first
@@ -21,8 +26,8 @@
  *  No.  Meaning                                    Node and offset
  *   0   sound; or all keys looked up               0, 0
  *   0   found                                      the node, where the record starts
- *   1   length: not 1 to 65,536 whole nodes of     0, 0
- *       512 bytes
+ *   1   length: not 1 to 65,536 whole nodes, of    0, 0
+ *       512 bytes or of the node size said
  *   2   header node                                0, 0
  *   3   map chain                                  the node at fault, 0; for a link out of range or
  *                                                  to a node already in the chain, the node that has
@@ -45,11 +50,13 @@
  *  14   not seen                                   0, 0
  *  15   fewer results than keys                    0, 0
  *  16   fewer working bytes than the nodes need    0, 0
+ *  25   an edition, or a node size of it, that     0, 0
+ *       is not listed above
  *
- * Nodes count from 0, offsets from the node's start. Record r of a leaf starts at 14 + 20 r. Levels
- * count from the leaves: leaves are the nodes of level 1, each child's level is one less than its
- * parent's, and the root's is the depth. Of several faults the first in the order of tests is the
- * answer: 11 or 15, 1, 16, then 2 to 10.
+ * Nodes count from 0, offsets from the node's start. Record r of a leaf starts at 14 + 20 r in HFS and
+ * at 14 + 76 r in HFS Plus. Levels count from the leaves: leaves are the nodes of level 1, each child's
+ * level is one less than its parent's, and the root's is the depth. Of several faults the first in the
+ * order of tests is the answer: 25, 11 or 15, 1, 16, then 2 to 10.
  */
 #ifndef HFS_BTREE_H
 #define HFS_BTREE_H
@@ -60,6 +67,13 @@
 /* The working bytes that an image of so many bytes needs, and the most that any needs. */
 #define HFS_WORK_BYTES(len) (((len) / 512 + 7) / 8)
 #define HFS_MOST_WORK_BYTES 8192
+
+/* The same for nodes of any size but 0; the most is the same for all of them. */
+#define HFS_EXTENTS_WORK_BYTES(image_length, node_size) (((image_length) / (node_size) + 7) / 8)
+
+/* The editions. */
+#define HFS_EDITION_HFS 0
+#define HFS_EDITION_HFS_PLUS 1
 
 /* A key as one number; numeric order is key order. */
 #define HFS_PACKED_KEY(file, fork, start) \
@@ -133,6 +147,50 @@ void hfs_lookup_many(const uint8_t *image, size_t len, const uint64_t *keys, siz
  */
 void hfs_salvage(const uint8_t *image, size_t len, uint32_t file, uint8_t fork, uint16_t start,
                  uint32_t out[3], uint8_t data[12]);
+
+/*
+ * Is the image sound, by the rules of an edition and with nodes of a size?
+ *
+ * out[0]  25 if there is no such edition or it has no such node size, and no working byte is touched;
+ *         else as hfs_check has it
+ * out[1]  the node of the fault's place; 0 for 25
+ * out[2]  the offset of the fault's place in that node; 0 for 25
+ */
+void hfs_extents_check(uint32_t edition, uint32_t node_size, const uint8_t *image, size_t len,
+                       uint8_t *work, size_t work_len, uint32_t out[3]);
+
+/*
+ * What stands under this key, by the rules of an edition and with nodes of a size? Edition and node
+ * size are judged first, then the fork byte, then the whole image, and only then the tree is searched.
+ * A start block above 65,535 is in no HFS image: it is searched for, and absent.
+ *
+ * out[0]   0 found, 12 absent, else the number of the refusal: 25 or 11, with no working byte touched,
+ *          or the check's own
+ * out[1]   .. out[12]  as hfs_lookup has them; all 0 for 25. The keys compared in a node are at most
+ *          the binary digits of its record count: six in HFS, five in HFS Plus nodes of 512 bytes and
+ *          eleven in those of 32,768
+ * data     found: the record's data bytes, then zeros. In HFS these are 12, three pairs of first block
+ *          and block count of 16 bits each; in HFS Plus 64, eight pairs of 32 bits each; big-endian.
+ *          Else zeros
+ */
+void hfs_extents_lookup(uint32_t edition, uint32_t node_size, const uint8_t *image, size_t len,
+                        uint32_t file, uint8_t fork, uint32_t start, uint8_t *work, size_t work_len,
+                        uint32_t out[13], uint8_t data[64]);
+
+/*
+ * What can be seen under this key, by the rules of an edition and with nodes of a size, in an image of
+ * any state? Seen proves no more than it does in hfs_salvage. A start block above 65,535 is not seen in
+ * any HFS image.
+ *
+ * out[0]  13 seen, 14 not seen, else the number of the refusal: 25, 11, or 1 for an image of more than
+ *         65,536 times the node size in bytes
+ * out[1]  seen: the node; else 0
+ * out[2]  seen: where the record starts in its node; else 0
+ * data    seen: the record's data bytes, 12 in HFS and 64 in HFS Plus, then zeros; else zeros
+ */
+void hfs_extents_salvage(uint32_t edition, uint32_t node_size, const uint8_t *image, size_t len,
+                         uint32_t file, uint8_t fork, uint32_t start, uint32_t out[3],
+                         uint8_t data[64]);
 
 #ifdef __cplusplus
 }

@@ -1,7 +1,7 @@
 -- What a check answers where working bytes are lent: 16 just where they are too few for an image of a right length, and else the verdict.
 -- Assumes nothing.
 use mathlib.Core.Path.{_≡_, sym, ap, _∙_}
-use mathlib.Core.Logic.{⊎-elim, Dec·and}
+use mathlib.Core.Logic.{_≢_, ⊎-elim, Dec·and}
 use mathlib.Core.Bool.{true, false}
 use mathlib.Core.List.{List}
 use Prim.Native.Nat.{ℕ, _*_, _≤_, _<_}
@@ -79,20 +79,20 @@ module _ (l : Layout) (img : List ℕ) (f : Format) (lent : ℕ) where
       go (yes d) = ⊎-elim (λ n. omega arith) (λ (a, b). omega arith) (verdict-ranged l img f (says-yes (decLengths l img) d) .range)
       go (no d) = let n = ap (λ (t : Verdict). t .number) (fault-1 l img f (says-no (decLengths l img) d)) in omega arith
 
-  few-16 : checked l img f lent .number ≡ 16 → TooFew l img lent
-  few-16 z = go decTooFew
+  -- so a number above 10 says that the bytes are too few
+  above-10 : 10 < checked l img f lent .number → TooFew l img lent
+  above-10 h = go decTooFew
     where
       go : Dec (TooFew l img lent) → TooFew l img lent
       go (yes t) = t
       go (no n) = let e = ap (λ (t : Verdict). t .number) (checked-else n) in let m = verdict-most in absurd (omega arith)
 
-  -- 15 is no number of a check
-  pub checked-not-15 : checked l img f lent .number ≡ 15 → ⊥
-  checked-not-15 z = go decTooFew
-    where
-      go : Dec (TooFew l img lent) → ⊥
-      go (yes t) = let e = ap (λ (t : Verdict). t .number) (of-few t) in omega arith
-      go (no n) = let e = ap (λ (t : Verdict). t .number) (checked-else n) in let m = verdict-most in omega arith
+  few : checked l img f lent .number ≡ 16 → TooFew l img lent
+  few z = above-10 (omega arith)
+
+  -- and no other but 16 is a check's
+  pub checked-not : (n : ℕ) → 10 < n → n ≢ 16 → checked l img f lent .number ≢ n
+  checked-not n h d z = let e = ap (λ (t : Verdict). t .number) (of-few (above-10 (omega arith))) in d (omega arith)
 
   module _ (fits : Fits l) where
     sound-0 : checked l img f lent .number ≡ 0 → Sound l img f × (needed l img ≤ lent)
@@ -112,7 +112,7 @@ module _ (l : Layout) (img : List ℕ) (f : Format) (lent : ℕ) where
         record {
           sound = (λ z. sound-0 (sym n ∙ z), λ (s, h). n ∙ ap (λ (t : Verdict). t .number) (checked-enough h ∙ sound-verdict l fits img f s));
           ofFew = λ t. q ∙ of-few t;
-          onlyFew = λ z. few-16 (sym n ∙ z);
+          onlyFew = λ z. few (sym n ∙ z);
           ofOthers = λ h. q ∙ checked-else h;
-          ofEnough = λ h. (q ∙ checked-enough h, λ z. let t = few-16 (sym n ∙ z) in let w = t .fewer in omega arith);
+          ofEnough = λ h. (q ∙ checked-enough h, λ z. let t = few (sym n ∙ z) in let w = t .fewer in omega arith);
         }

@@ -6,7 +6,7 @@ use mathlib.Core.List.{List, [], _∷_, _++_, List·Memᴰ·head, List·Memᴰ·
 use Prim.Native.Nat.{ℕ, zero, suc, _+_, _-_, _*_, _/_, _%_, _^_, _≤_, _<_}
 use native.Mathlib.Nat.{div-div-eq-div-mul, div-eq-of-lt, div-one, pow-suc}
 use native.Mathlib.Omega.{arith}
-use native.Mathlib.Decide.{decLt}
+use native.Mathlib.Decide.{decLe, decLt}
 use lib.ListN.{length, getD, drop, replicate, length-replicate, getD-replicate, List·getD-append}
 use lib.Seq.{drop-at}
 use Rattle.image.specs.Bit.{bitOf}
@@ -97,19 +97,24 @@ module _ (nodes : List ℕ) where
       go h (yes m) = m
       go h (no m) = let z = bit-not nodes n m in absurd (omega arith)
 
--- a member of a list of two numbers, or of four, is one of them
+-- a member of a list of two numbers, or of five, is one of them
 of-two : {n a b : ℕ} → n ∈ a ∷ b ∷ [] → (n ≡ a → ⊥) → (n ≡ b → ⊥) → ⊥
 of-two m p q = ⊎-elim p (λ k. ⊎-elim q List·Memᴰ·not-nil (List·Memᴰ·cases-cons k)) (List·Memᴰ·cases-cons m)
 
-of-four : {n a b c d : ℕ} → n ∈ a ∷ b ∷ c ∷ d ∷ [] → (n ≡ a → ⊥) → (n ≡ b → ⊥) → (n ≡ c → ⊥) → (n ≡ d → ⊥) → ⊥
-of-four m p q r s = ⊎-elim p (λ k. ⊎-elim q (λ x. of-two x r s) (List·Memᴰ·cases-cons k)) (List·Memᴰ·cases-cons m)
+of-five : {n a b c d e : ℕ} → n ∈ a ∷ b ∷ c ∷ d ∷ e ∷ [] → (n ≡ a → ⊥) → (n ≡ b → ⊥) → (n ≡ c → ⊥) → (n ≡ d → ⊥) → (n ≡ e → ⊥) → ⊥
+of-five m p q r s t =
+    ⊎-elim p (λ k. ⊎-elim q (λ x. ⊎-elim r (λ y. of-two y s t) (List·Memᴰ·cases-cons x)) (List·Memᴰ·cases-cons k)) (List·Memᴰ·cases-cons m)
 
-pub not-16 : (n : ℕ) → n ∈ soundNumbers → n ≡ 16 → ⊥
-not-16 n m z = of-two m (λ e. omega arith) (λ e. omega arith)
+pub sound-most : (n : ℕ) → n ∈ soundNumbers → n ≤ 12
+sound-most n m = go (decLe n 12)
+  where
+    go : Dec (n ≤ 12) → n ≤ 12
+    go (yes h) = h
+    go (no h) = absurd (of-two m (λ e. omega arith) (λ e. omega arith))
 
 apart : (n : ℕ) → n ∈ untouching → n ∈ soundNumbers → ⊥
 apart n m k =
-    of-four m (λ e. of-two k (λ q. omega arith) (λ q. omega arith)) (λ e. of-two k (λ q. omega arith) (λ q. omega arith))
+    of-five m (λ e. of-two k (λ q. omega arith) (λ q. omega arith)) (λ e. of-two k (λ q. omega arith) (λ q. omega arith)) (λ e. of-two k (λ q. omega arith) (λ q. omega arith))
     (λ e. of-two k (λ q. omega arith) (λ q. omega arith)) (λ e. of-two k (λ q. omega arith) (λ q. omega arith))
 
 front-bit : (a b : List ℕ) (n : ℕ) → n < 8 * length a → bitOf (a ++ b) n ≡ bitOf a n
@@ -139,7 +144,8 @@ module _ (l : Layout) (img : List ℕ) (f : Format) where
       → workLeft l img f number work ≡ neededLeft l img f number ++ drop (needed l img) work
   left-tested number work r =
       left-others number work
-      (λ m. of-four m
+      (λ m. of-five m
+      (λ e. ⊎-elim (λ z. omega arith) (λ (a, b). omega arith) r)
       (λ e. ⊎-elim (λ z. omega arith) (λ (a, b). omega arith) r)
       (λ e. ⊎-elim (λ z. omega arith) (λ (a, b). omega arith) r)
       (λ e. ⊎-elim (λ z. omega arith) (λ (a, b). omega arith) r)

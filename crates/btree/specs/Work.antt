@@ -27,9 +27,9 @@ bitsFor nodes n (suc c) = 2 * bitsFor nodes n c + bitFor nodes (n + c)
 abbrev pub bitmap : List ℕ → ℕ → List ℕ
 bitmap nodes size = span 0 size (λ i. bitsFor nodes (8 * i) 8 ∷ [])
 
--- the numbers of a refusal before the bytes are used: "on these four nothing is touched"
+-- the numbers of a refusal before the bytes are used: "on these four nothing is touched"; W-211: nor on 25
 abbrev pub untouching : List ℕ
-untouching = 11 ∷ 15 ∷ 1 ∷ 16 ∷ []
+untouching = 25 ∷ 11 ∷ 15 ∷ 1 ∷ 16 ∷ []
 
 -- "a sound verdict, also within a lookup": found, which is 0 too, and absent
 abbrev pub soundNumbers : List ℕ
@@ -76,7 +76,7 @@ module _ (l : Layout) (img : List ℕ) where
     -- the same, and what it comes to
     pub record Leaves (number : ℕ) (entry exit : List ℕ) : Type 0 where
       pub exactly : exit ≡ workLeft number entry
-      -- "on these four nothing is touched"
+      -- "on these four nothing is touched", nor on 25
       pub untouched : number ∈ untouching → exit ≡ entry
       -- "After a sound verdict, also within a lookup, the needed bytes have set bits for exactly the nodes in use"
       pub used : number ∈ soundNumbers → (n : ℕ) → n < 8 * needed → (bitOf exit n ≡ 1) ↔ (n ∈ reached (viewOf l f img))

@@ -2,14 +2,20 @@
 ghost use mathlib.Core.Path.{_≡_};
 ghost use lib.ListN.{length};
 ghost use Rattle.btree.specs.Numbers.{lookupReply, salvageReply, replyNumbers, lookupNumbers};
+ghost use Rattle.frame.specs.Form.{formOf};
+ghost use Rattle.reader.specs.Reader as reader;
+ghost use Rattle.editions.specs.Editions.{checkedAs, lookedUpAs, salvagedAs};
 ghost use Rattle.extents.specs.Reader.{checked, Leaves, lookedUp, foundPart, salvaged, seenPart};
 ghost use Rattle.extents.specs.Many.{manyAnswer, manyResults};
 ghost use Rattle.formats.specs.Key.{asked};
-ghost use Rattle.replies.specs.Written.{dataBytes};
+ghost use Rattle.replies.specs.Written.{dataBytes, wideBytes};
+use frame::form::Form;
 use replies::found_data;
+use replies::found_wide;
 use replies::lookup_numbers;
 use replies::salvage_reply;
 use replies::seen_data;
+use replies::seen_wide;
 use replies::verdict_numbers;
 
 // Number, node, offset.
@@ -74,4 +80,64 @@ pub extern "C" fn hfs_salvage(
     let seen = extents::salvage(image, file, fork, start);
     *out = salvage_reply(seen);
     *data = seen_data(image, seen);
+}
+
+// For an edition and a node size: number, node, offset.
+#[no_mangle]
+pub extern "C" fn hfs_extents_check(
+    edition: u32,
+    size: u32,
+    image: &[u8],
+    work: &mut [u8],
+    out: &mut [u32; 3],
+)
+    ensures numbers { λ _. ⌜ now (out .exit) ≡ replyNumbers (checkedAs (formOf edition size) (now (image .entry)) (length (now (work .entry)))) ⌝ }
+    ensures leaves { λ _. ⌜ reader.Leaves (formOf edition size) (now (image .entry)) (checkedAs (formOf edition size) (now (image .entry)) (length (now (work .entry))) .number) (now (work .entry)) (now (work .exit)) ⌝ }
+{
+    *out = verdict_numbers(editions::check(edition, size, image, work));
+}
+
+// For an edition and a node size: number, node, offset, keys compared, path length, eight nodes of the path; and the record's data.
+#[no_mangle]
+pub extern "C" fn hfs_extents_lookup(
+    edition: u32,
+    size: u32,
+    image: &[u8],
+    file: u32,
+    fork: u8,
+    start: u32,
+    work: &mut [u8],
+    out: &mut [u32; 13],
+    data: &mut [u8; 64],
+)
+    ensures numbers { λ _. ⌜ now (out .exit) ≡ lookupNumbers (lookedUpAs (formOf edition size) (now (image .entry)) (asked file fork start) (length (now (work .entry)))) ⌝ }
+    ensures bytes { λ _. ⌜ now («data» .exit) ≡ wideBytes (now (image .entry)) (reader.foundPart (formOf edition size) (lookedUpAs (formOf edition size) (now (image .entry)) (asked file fork start) (length (now (work .entry))) .answer)) ⌝ }
+    ensures leaves { λ _. ⌜ reader.Leaves (formOf edition size) (now (image .entry)) (lookupReply (lookedUpAs (formOf edition size) (now (image .entry)) (asked file fork start) (length (now (work .entry))) .answer) .number) (now (work .entry)) (now (work .exit)) ⌝ }
+{
+    let found = editions::lookup(edition, size, image, file, fork, start, work);
+    let answer = found.answer;
+    let form = Form { edition, size };
+    *out = lookup_numbers(found);
+    *data = found_wide(form, image, answer);
+}
+
+// For an edition and a node size: number, node, offset; and the record's data.
+#[no_mangle]
+pub extern "C" fn hfs_extents_salvage(
+    edition: u32,
+    size: u32,
+    image: &[u8],
+    file: u32,
+    fork: u8,
+    start: u32,
+    out: &mut [u32; 3],
+    data: &mut [u8; 64],
+)
+    ensures numbers { λ _. ⌜ now (out .exit) ≡ replyNumbers (salvageReply (salvagedAs (formOf edition size) (now (image .entry)) (asked file fork start))) ⌝ }
+    ensures bytes { λ _. ⌜ now («data» .exit) ≡ wideBytes (now (image .entry)) (reader.seenPart (formOf edition size) (salvagedAs (formOf edition size) (now (image .entry)) (asked file fork start))) ⌝ }
+{
+    let seen = editions::salvage(edition, size, image, file, fork, start);
+    let form = Form { edition, size };
+    *out = salvage_reply(seen);
+    *data = seen_wide(form, image, seen);
 }

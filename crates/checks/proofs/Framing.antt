@@ -14,43 +14,48 @@ use Rattle.btree.proofs.Decisions.{said}
 use Rattle.btree.proofs.Chain.{chain-few, chain-rules}
 use Rattle.btree.proofs.MapBits.{some-nodes}
 use Rattle.map.specs.declared.chain.Chain.{Chain}
-use Rattle.hfs.specs.Hfs.{hfs}
+use Rattle.frame.specs.declared.form.Form.{Form}
+use Rattle.frame.specs.Form.{keyLength, layoutOf}
 use Rattle.map.specs.Frame.{Room, ChainOf, Framed}
-use Rattle.hfs.proofs.Hfs.{fits}
+use Rattle.frame.proofs.Forms.{fits, nodes-few, nodes-whole}
 use Rattle.walk.specs.Outcome.{Begins}
 use Rattle.checks.specs.Tested.{Ready}
 
-module _ (img bits : List ℕ) (ready : Ready img bits) (h : says (decHeaderNode hfs img 7) ≡ true) where
-  header : HeaderNode hfs img 7
-  header = said (decHeaderNode hfs img 7) h
+module _ (form : Form) (img bits : List ℕ) (ready : Ready form img bits) (h : says (decHeaderNode (layoutOf form) img (keyLength form)) ≡ true) where
+  header : HeaderNode (layoutOf form) img (keyLength form)
+  header = said (decHeaderNode (layoutOf form) img (keyLength form)) h
 
   few : totalOf img ≤ 65536
-  few = let a = ready .lengths .few in let b = header .totalNodes in omega arith
+  few = let a = nodes-few form (length img) (ready .lengths .few) in let b = header .totalNodes in omega arith
 
   -- the bytes have a bit for each node
   enough : totalOf img ≤ 8 * length bits
   enough = let a = ready .enough in let b = header .totalNodes in omega arith
 
-  pub room : Room img bits
-  room = record { some = some-nodes hfs fits img (ready .lengths) (header .totalNodes); few = few; enough = enough }
+  pub room : Room form img bits
+  room = record { fair = ready .fair; some = some-nodes (layoutOf form) (fits form (ready .fair)) img (ready .lengths) (header .totalNodes); few = few; enough = enough }
 
-  module _ (c : chainFrom hfs img [] 0 (mapNodes hfs img) .number ≡ 0) where
-    chain : MapChain hfs img
-    chain = chain-rules hfs img (room .some) c
+  module _ (c : chainFrom (layoutOf form) img [] 0 (mapNodes (layoutOf form) img) .number ≡ 0) where
+    chain : MapChain (layoutOf form) img
+    chain = chain-rules (layoutOf form) img (room .some) c
 
-    pub framed : Framed img
-    framed = record { lengths = ready .lengths; totalNodes = header .totalNodes; chain = chain }
+    pub framed : Framed form img
+    framed = record { fair = ready .fair; lengths = ready .lengths; totalNodes = header .totalNodes; chain = chain }
 
     -- the chain's walk leaves as many bytes as there were
-    pub begins : (after : List ℕ) → length after ≡ length bits → (r : Chain) → ChainOf img after r → r .number ≡ 0 → Begins img after (r .nodes)
+    pub begins : (after : List ℕ) → length after ≡ length bits → (r : Chain) → ChainOf form img after r → r .number ≡ 0 → Begins form img after (r .nodes)
     unfolding viewOf
     begins after e r o z =
-        let k = chain-few hfs img (room .some) (chain .once) (chain .inRange) in
+        let k = chain-few (layoutOf form) img (room .some) (chain .once) (chain .inRange) in
         record {
-          few = few;
-          whole = let b = header .totalNodes in omega arith;
-          room = let q = enough in omega arith;
-          shallow = header .depthInRange;
+          walkable =
+              record {
+                fair = ready .fair;
+                few = few;
+                whole = let b = header .totalNodes in rw b (nodes-whole form (length img));
+                room = let q = enough in omega arith;
+                shallow = header .depthInRange;
+              };
           marks = o .marks z;
           count = o .count z;
           small = let n = o .count z in let f = few in omega arith;

@@ -1,29 +1,30 @@
-// The whole check of an image. The bitmap of the nodes met is in bytes that the caller lends.
+// The whole check of an image of any form. The bitmap of the nodes met is in bytes that the caller lends.
 ghost use mathlib.Core.Path.{_≡_};
 ghost use lib.ListN.{length};
 ghost use Rattle.btree.specs.Work.{checked, CheckSays, Leaves};
-ghost use Rattle.hfs.specs.Hfs.{hfs};
-ghost use Rattle.formats.specs.Format.{format};
+ghost use Rattle.frame.specs.Form.{layoutOf, Fair};
+ghost use Rattle.formats.specs.Format.{formatOf};
 ghost use Rattle.checks.specs.Tested.{Ready, Tested, Settled};
 use btree::Verdict;
 use btree::at_node;
-use hfs::header::header_right;
-use hfs::header::length_right;
-use hfs::work::needed_bytes;
+use frame::form::Form;
+use frame::work::needed_bytes;
+use header::header_right;
+use header::length_right;
 use image::visited::clear;
 use map::bits::map_tests;
 use map::chain::map_chain;
 use walk::tree_tests;
 
 // Tests 2 to 10, on the bytes that the nodes need.
-fn tests(image: &[u8], bits: &mut [u8]) -> Verdict
-    requires { ⌜ Ready (now image) (now bits) ⌝ }
-    ensures { λ r. ⌜ Tested (now (image .entry)) (now (bits .exit)) r ⌝ }
+fn tests(form: Form, image: &[u8], bits: &mut [u8]) -> Verdict
+    requires { ⌜ Ready form (now image) (now bits) ⌝ }
+    ensures { λ r. ⌜ Tested form (now (image .entry)) (now (bits .exit)) r ⌝ }
 {
-    if !header_right(image, 7) {
+    if !header_right(form, image) {
         return at_node(2, 0);
     }
-    let chain = map_chain(image, bits);
+    let chain = map_chain(form, image, bits);
     if chain.number != 0 {
         let place = chain.place;
         return Verdict {
@@ -31,7 +32,7 @@ fn tests(image: &[u8], bits: &mut [u8]) -> Verdict
             place,
         };
     }
-    let tree = tree_tests(image, bits, chain.nodes);
+    let tree = tree_tests(form, image, bits, chain.nodes);
     if tree.number != 0 {
         let place = tree.place;
         return Verdict {
@@ -39,15 +40,15 @@ fn tests(image: &[u8], bits: &mut [u8]) -> Verdict
             place,
         };
     }
-    map_tests(image, bits, tree.nodes)
+    map_tests(form, image, bits, tree.nodes)
 }
 
 // The same, with the bytes cleared after a fault: what the tests left there is of no use.
-fn settled(image: &[u8], bits: &mut [u8]) -> Verdict
-    requires { ⌜ Ready (now image) (now bits) ⌝ }
-    ensures { λ r. ⌜ Settled (now (image .entry)) (now (bits .exit)) r ⌝ }
+fn settled(form: Form, image: &[u8], bits: &mut [u8]) -> Verdict
+    requires { ⌜ Ready form (now image) (now bits) ⌝ }
+    ensures { λ r. ⌜ Settled form (now (image .entry)) (now (bits .exit)) r ⌝ }
 {
-    let t = tests(image, bits);
+    let t = tests(form, image, bits);
     if t.number != 0 {
         clear(bits);
     }
@@ -55,18 +56,19 @@ fn settled(image: &[u8], bits: &mut [u8]) -> Verdict
 }
 
 // Tests 1 and 16 come first, and touch nothing. The other tests have the needed bytes and no further ones.
-pub fn check(image: &[u8], work: &mut [u8]) -> Verdict
-    ensures equal { λ r. ⌜ r ≡ checked hfs (now (image .entry)) format (length (now (work .entry))) ⌝ }
-    ensures says { λ r. ⌜ CheckSays hfs (now (image .entry)) format (length (now (work .entry))) r ⌝ }
-    ensures leaves { λ r. ⌜ Leaves hfs (now (image .entry)) format (r .number) (now (work .entry)) (now (work .exit)) ⌝ }
+pub fn check(form: Form, image: &[u8], work: &mut [u8]) -> Verdict
+    requires { ⌜ Fair form ⌝ }
+    ensures equal { λ r. ⌜ r ≡ checked (layoutOf form) (now (image .entry)) (formatOf form) (length (now (work .entry))) ⌝ }
+    ensures says { λ r. ⌜ CheckSays (layoutOf form) (now (image .entry)) (formatOf form) (length (now (work .entry))) r ⌝ }
+    ensures leaves { λ r. ⌜ Leaves (layoutOf form) (now (image .entry)) (formatOf form) (r .number) (now (work .entry)) (now (work .exit)) ⌝ }
 {
-    if !length_right(image) {
+    if !length_right(form, image) {
         return at_node(1, 0);
     }
-    let need = needed_bytes(image);
+    let need = needed_bytes(form, image);
     let lent = work.len();
     if lent < need {
         return at_node(16, 0);
     }
-    settled(image, &mut work[0..need])
+    settled(form, image, &mut work[0..need])
 }

@@ -1,11 +1,4 @@
-pub mod Soundness
-pub mod Levels
-pub mod Pointers
-pub mod Parts
-pub mod Starts
 pub mod Compared
 pub mod Demands
 pub mod Results
 pub mod Many
-pub mod Matches
-pub mod Salvaged

@@ -9,30 +9,29 @@ use native.Mathlib.Decide.{ℕ-discrete, decLe}
 use lib.ListN.{length, getD, drop}
 use Rattle.btree.specs.declared.Verdict.{Verdict}
 use Rattle.btree.specs.Places.{imageStart}
-use Rattle.btree.specs.Header.{viewOf}
 use Rattle.btree.specs.Walk.{fails}
 use Rattle.btree.proofs.Decisions.{says-yes, says-no}
 use Rattle.btree.proofs.First.{unless-true, unless-false}
 use Rattle.btree.proofs.Ordered.{if-zero, if-other}
-use Rattle.btree.proofs.Checked.{check-says, checked-not-15}
-use Rattle.hfs.specs.Hfs.{hfs}
-use Rattle.hfs.proofs.Hfs.{fits}
-use Rattle.formats.specs.Format.{format}
+use Rattle.btree.proofs.Checked.{check-says, checked-not}
+use Rattle.frame.specs.Form.{hfs, layoutOf}
+use Rattle.frame.proofs.Forms.{hfs-listed, fair, fits}
+use Rattle.formats.specs.Format.{formatOf}
 use Rattle.formats.proofs.Order.{Bytes}
 use Rattle.search.specs.Rows.{resultIn, filled, Placeable}
+use Rattle.search.proofs.Searched.{searchable}
 use Rattle.search.proofs.Filled.{filled-at, filled-beyond, filled-whole}
 use Rattle.extents.specs.Reader.{Sound, checked, Leaves}
 use Rattle.extents.specs.Many.{result, manyAnswer, manyResults, ResultSays, ManySays}
-use Rattle.extents.proofs.Demands.{answer-inside}
+use Rattle.reader.proofs.Demands.{answer-inside}
 use Rattle.extents.proofs.Results.{result-is, result-says}
 
 -- every place of data in a sound image fits 32 bits
 pub placeable : (img : List ℕ) → Sound img → Placeable img
-unfolding viewOf
 placeable img s =
     record {
-      searchable = record { tree = s .tree; shallow = s .header .depthInRange };
-      small = λ k p e. let a = answer-inside img s k p e in let l = s .lengths .few in omega arith;
+      searchable = searchable hfs (fair hfs hfs-listed) img s;
+      small = λ k p e. let a = answer-inside hfs (fair hfs hfs-listed) img s k p e in let l = s .lengths .few in omega arith;
     }
 
 -- what is answered and written
@@ -69,7 +68,7 @@ module _ (img : List ℕ) (b : Bytes img) (keys entry : List ℕ) (lent : ℕ) w
     only-short z = go (decLe (length keys) (length entry))
       where
         go : Dec (length keys ≤ length entry) → length entry < length keys
-        go (yes h) = absurd (checked-not-15 hfs img format lent (ap (λ (t : Verdict). t .number) (sym (is ∙ answer-checked h) ∙ z)))
+        go (yes h) = absurd (checked-not (layoutOf hfs) img (formatOf hfs) lent 15 (omega arith) (λ q. omega arith) (ap (λ (t : Verdict). t .number) (sym (is ∙ answer-checked h) ∙ z)))
         go (no h) = omega arith
 
     each : r .number ≡ 0 → (i : ℕ) → i < length keys → ResultSays img (getD keys i 0) (getD exit i 0)
@@ -89,7 +88,7 @@ module _ (img : List ℕ) (b : Bytes img) (keys entry : List ℕ) (lent : ℕ) w
     many-says =
         record {
           short = (only-short, λ h. is ∙ answer-short h);
-          ofOthers = λ h. check-says hfs img format lent fits r (is ∙ answer-checked h);
+          ofOthers = λ h. check-says (layoutOf hfs) img (formatOf hfs) lent (fits hfs (fair hfs hfs-listed)) r (is ∙ answer-checked h);
           unwritten = λ n. row ∙ results-stay (λ z. n (number-is ∙ z));
           each = each;
           beyond = ⊎-elim (ap (drop (length keys))) (λ (h, e). ap (drop (length keys)) e ∙ filled-beyond (result img lent) keys entry) either;

@@ -17,30 +17,31 @@ use Rattle.btree.specs.Search.{placeOf, answerOf}
 use Rattle.btree.proofs.Decisions.{cond-yes, cond-no}
 use Rattle.btree.proofs.Answers.{descent-answers}
 use Rattle.btree.proofs.Checked.{check-says}
-use Rattle.hfs.specs.Hfs.{hfs}
-use Rattle.hfs.proofs.Hfs.{fits}
+use Rattle.frame.specs.Form.{hfs, layoutOf}
+use Rattle.frame.proofs.Forms.{hfs-listed, fair, fits}
 use Rattle.formats.specs.declared.key.Key.{Key}
-use Rattle.formats.specs.Key.{packed, unpacked, keyLimit, IsKey, decKey}
-use Rattle.formats.specs.Format.{format, view}
-use Rattle.formats.proofs.Order.{InRange, Bytes, unpacked-range, packed-unpacked, unpacked-packed}
+use Rattle.formats.specs.Key.{rank, packed, IsShort, unpacked, keyLimit, IsKey, decKey}
+use Rattle.formats.specs.Format.{keySize, dataSize, formatOf}
+use Rattle.formats.proofs.Order.{InRange, Bytes, unpacked-range, unpacked-packed}
 use Rattle.search.specs.Rows.{resultOf, resultIn}
 use Rattle.search.proofs.Filled.{result-no-key, result-key}
-use Rattle.extents.specs.Reader.{Sound, needed, checked, lookedUp, leafList, dataPart}
-use Rattle.extents.specs.Demands.{HasKey, SoundAnswer}
+use Rattle.extents.specs.Reader.{view, Sound, needed, checked, lookedUp, leafList, dataPart}
+use Rattle.reader.specs.Demands.{SoundAnswer}
+use Rattle.extents.specs.Demands.{HasKey}
 use Rattle.extents.specs.Many.{result, ResultSays}
-use Rattle.extents.proofs.Demands.{found-inside, lookup-unlawful, lookup-answers, lookup-says}
+use Rattle.reader.proofs.Demands.{found-inside, lookup-unlawful, lookup-answers, lookup-says}
 
 -- a place of data is never 0 or 1, so that the three cases of a result cannot be mistaken
 pub place-apart : (p : Place) → 2 ≤ dataPart p .at
+unfolding keySize
 place-apart p = omega arith
 
 -- the single lookup of a key by its three numbers, and the result of its packed number
-pub as-single : (img : List ℕ) (lent : ℕ) (k : Key) → InRange k → k .file < 4294967296 → result img lent (packed k) ≡ resultOf (lookedUp img k lent .answer)
+pub as-single : (img : List ℕ) (lent : ℕ) (k : Key) → InRange k → IsShort k → k .file < 4294967296 → result img lent (packed k) ≡ resultOf (lookedUp img k lent .answer)
 unfolding result packed
-as-single img lent k r h =
+as-single img lent k r b h =
     let a = r .fork in
-    let b = r .start in
-    cond-yes (decLt (packed k) _) _ _ (omega arith) ∙ ap (λ (j : Key). resultOf (lookedUp img j lent .answer)) (unpacked-packed k r)
+    cond-yes (decLt (packed k) _) _ _ (omega arith) ∙ ap (λ (j : Key). resultOf (lookedUp img j lent .answer)) (unpacked-packed k r b)
 
 module _ (img : List ℕ) (b : Bytes img) (lent number : ℕ) where
   single : number < keyLimit → result img lent number ≡ resultOf (lookedUp img (unpacked number) lent .answer)
@@ -53,15 +54,14 @@ module _ (img : List ℕ) (b : Bytes img) (lent number : ℕ) where
     where
       go : Dec (number < keyLimit) → result img lent number ≡ 1
       go (yes l) =
-          single l ∙ ap (λ (x : Lookup). resultOf (x .answer)) (lookup-unlawful img b (unpacked number) (unpacked-range number) lent (λ f. h (l, f)))
+          single l ∙ ap (λ (x : Lookup). resultOf (x .answer)) (lookup-unlawful hfs (fair hfs hfs-listed) img b (unpacked number) (unpacked-range number) lent (λ f. h (l, f)))
       go (no l) = cond-no (decLt number _) _ _ (λ h. omega arith)
 
   module _ (z : checked img lent .number ≡ 0) where
     -- the result of a key goes by what the descent answers
-    descends : IsKey number → result img lent number ≡ resultOf (answerOf (view img) number)
+    descends : IsKey number → result img lent number ≡ resultOf (answerOf (view img) (rank (unpacked number)))
     descends h =
-        single (h .0) ∙ ap (λ (x : Lookup). resultOf (x .answer)) (lookup-answers img b (unpacked number) (unpacked-range number) lent (h .1) z)
-        ∙ ap (λ (k : ℕ). resultOf (answerOf (view img) k)) (packed-unpacked number)
+        single (h .0) ∙ ap (λ (x : Lookup). resultOf (x .answer)) (lookup-answers hfs (fair hfs hfs-listed) img b (unpacked number) (unpacked-range number) lent (h .1) z)
 
     -- which is what a row is filled with
     pub result-is : resultIn img number ≡ result img lent number
@@ -72,14 +72,14 @@ module _ (img : List ℕ) (b : Bytes img) (lent number : ℕ) where
         go (no h) = result-no-key img number h ∙ sym (no-key h)
 
     sound : Sound img × (needed img ≤ lent)
-    sound = check-says hfs img format lent fits (checked img lent) refl .sound .0 z
+    sound = check-says (layoutOf hfs) img (formatOf hfs) lent (fits hfs (fair hfs hfs-listed)) (checked img lent) refl .sound .0 z
 
     module _ (h : IsKey number) where
       abbrev looked : Lookup
       looked = lookedUp img (unpacked number) lent
 
-      answers : SoundAnswer img (unpacked number) looked
-      answers = lookup-says img b (unpacked number) (unpacked-range number) lent .ofSound (sound .0) (h .1) (sound .1)
+      answers : SoundAnswer hfs img (unpacked number) looked
+      answers = lookup-says hfs (fair hfs hfs-listed) img b (unpacked number) (unpacked-range number) lent .ofSound (sound .0) (h .1) (sound .1)
 
       is : (a : Answer) → looked .answer ≡ a → result img lent number ≡ resultOf a
       is a e = single (h .0) ∙ ap resultOf e
@@ -98,15 +98,16 @@ module _ (img : List ℕ) (b : Bytes img) (lent number : ℕ) where
           go (Found p) e = inl (p, e, is (Found p) e)
           go (Absent n) e = inr (n, e, is (Absent n) e)
           go (Refused n o) e =
-              absurd (descent-answers (view img) (packed (unpacked number)) n o
-              (sym (ap (λ (l : Lookup). l .answer) (lookup-answers img b (unpacked number) (unpacked-range number) lent (h .1) z)) ∙ e))
+              absurd (descent-answers (view img) (rank (unpacked number)) n o
+              (sym (ap (λ (l : Lookup). l .answer) (lookup-answers hfs (fair hfs hfs-listed) img b (unpacked number) (unpacked-range number) lent (h .1) z)) ∙ e))
 
       not-1 : result img lent number ≡ 1 → ⊥
       not-1 q = ⊎-elim (λ (p, e, r). let a = place-apart p in omega arith) (λ (n, e, r). omega arith) either
 
       inside : 2 ≤ result img lent number → result img lent number + 12 ≤ length img
+      unfolding dataSize
       inside q =
-          ⊎-elim (λ (p, e, r). let a = found-inside img b (unpacked number) (unpacked-range number) lent p e in omega arith)
+          ⊎-elim (λ (p, e, r). let a = found-inside hfs (fair hfs hfs-listed) img b (unpacked number) (unpacked-range number) lent p e in omega arith)
           (λ (n, e, r). absurd (omega arith)) either
 
       found : (p : ℕ) → ((result img lent number ≡ p) × (2 ≤ p)) → (x : Rec) × (x ∈ leafList img) × (HasKey img (unpacked number) x) × (dataPart (placeOf x) .at ≡ p)

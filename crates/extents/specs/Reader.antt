@@ -1,96 +1,66 @@
--- What is said of an image: whether it is sound, the first fault, its leaf records, what a lookup and what salvage answer.
+-- What is said of an image of an HFS volume's extents overflow file: the words of every form, for this one.
 -- Assumes nothing.
 use mathlib.Core.List.{List}
-use Prim.Native.Nat.{ℕ, _-_, _*_, _/_}
-use native.Mathlib.Decide.{decLe}
-use lib.ListN.{length}
+use Prim.Native.Nat.{ℕ}
 use Rattle.btree.specs.declared.Place.{Place}
 use Rattle.btree.specs.declared.Verdict.{Verdict}
 use Rattle.btree.specs.declared.Answer.{Answer}
-use Rattle.btree.specs.declared.Answer.the-variants as answer
 use Rattle.btree.specs.declared.Lookup.{Lookup}
 use Rattle.btree.specs.declared.Salvage.{Salvage}
-use Rattle.btree.specs.declared.Salvage.the-variants.{Seen, NotSeen, Refused}
-use Rattle.btree.specs.Places.{imageStart, imageOffset}
-use Rattle.btree.specs.Decide.{cond}
-use Rattle.btree.specs.Tree.{Rec}
-use Rattle.btree.specs.Search as search
-use Rattle.btree.specs.Image as image
-use Rattle.btree.specs.Tests as tests
-use Rattle.btree.specs.Work as work
-use Rattle.hfs.specs.Hfs.{hfs}
+use Rattle.btree.specs.Tree.{Rec, View}
+use Rattle.frame.specs.Form.{hfs}
 use Rattle.formats.specs.declared.key.Key.{Key}
-use Rattle.formats.specs.Key.{packed, decLawful}
-use Rattle.formats.specs.Format.{dataAt, format, view}
-use Rattle.search.specs.Seen.{seenFrom}
+use Rattle.formats.specs.Format as format
+use Rattle.reader.specs.Reader as reader
+
+abbrev pub view : List ℕ → View
+view img = format.view hfs img
 
 abbrev pub Sound : List ℕ → Type 0
-Sound img = image.Sound hfs img format
+Sound img = reader.Sound hfs img
 
 -- the first fault in the order of tests, as a number of the table and its place
 abbrev pub verdict : List ℕ → Verdict
-verdict img = tests.verdict hfs img format
+verdict img = reader.verdict hfs img
 
 -- W-206: "one bit a node": the working bytes that the nodes of an image need
 abbrev pub needed : List ℕ → ℕ
-needed img = work.needed hfs img
+needed img = reader.needed hfs img
 
 -- "Fewer than the nodes need", of an image whose length is right
 abbrev pub TooFew : List ℕ → ℕ → Type 0
-TooFew img lent = work.TooFew hfs img lent
+TooFew img lent = reader.TooFew hfs img lent
 
 -- what a check answers where so many bytes are lent: 16 where they are too few, and else the verdict
 abbrev pub checked : List ℕ → ℕ → Verdict
-checked img lent = work.checked hfs img format lent
+checked img lent = reader.checked hfs img lent
 
 abbrev pub CheckSays : List ℕ → ℕ → Verdict → Type 0
-CheckSays img lent r = work.CheckSays hfs img format lent r
+CheckSays img lent r = reader.CheckSays hfs img lent r
 
 -- what a call whose answer has this number leaves in the bytes lent to it
 abbrev pub Leaves : List ℕ → ℕ → List ℕ → List ℕ → Type 0
-Leaves img number entry exit = work.Leaves hfs img format number entry exit
+Leaves img number entry exit = reader.Leaves hfs img number entry exit
 
 abbrev pub leafList : List ℕ → List Rec
-leafList img = search.leafList (view img)
+leafList img = reader.leafList hfs img
 
 abbrev pub searchPath : List ℕ → Key → List ℕ
-searchPath img k = search.pathOf (view img) (packed k)
-
--- W-202: "how many keys it compared so, in all"
-abbrev pub keysCompared : List ℕ → Key → ℕ
-keysCompared img k = search.comparedOf (view img) (packed k)
+searchPath img k = reader.searchPath hfs img k
 
 abbrev pub lookedUp : List ℕ → Key → ℕ → Lookup
-lookedUp img k lent = search.lookupOf (view img) (checked img lent) (decLawful (k .fork)) (packed k)
-
--- a part of the image: where it starts and how many bytes it has
-pub record Part : Type 0 where
-  pub at : ℕ
-  pub size : ℕ
-
-abbrev pub emptyPart : Part
-emptyPart = record { at = 0; size = 0 }
-
--- the data of the leaf record that starts at a place
-abbrev pub dataPart : Place → Part
-dataPart p = record { at = dataAt (imageOffset hfs p); size = 12 }
+lookedUp img k lent = reader.lookedUp hfs img k lent
 
 -- "Found hands back the 12 data bytes as a part of the image; every other answer hands back the empty part at its start."
-abbrev pub foundPart : Answer → Part
-foundPart (answer.Found p) = dataPart p
-foundPart (answer.Absent n) = emptyPart
-foundPart (answer.Refused number place) = emptyPart
+abbrev pub dataPart : Place → reader.Part
+dataPart p = reader.dataPart hfs p
 
--- "Salvage tests 11, then length: more than 3,072,000 bytes is 1; any other length is taken, and a broken last node is ignored. From node 1 up";
--- W-206: 33,554,432 bytes
-unfoldable pub salvaged : List ℕ → Key → Salvage
-salvaged img k =
-    cond (decLawful (k .fork))
-    (cond (decLe (length img) (hfs .maxNodes * hfs .nodeSize)) (seenFrom img (packed k) 1 (length img / hfs .nodeSize - 1)) (Refused 1 imageStart))
-    (Refused 11 imageStart)
+abbrev pub foundPart : Answer → reader.Part
+foundPart a = reader.foundPart hfs a
+
+abbrev pub salvaged : List ℕ → Key → Salvage
+salvaged img k = reader.salvaged hfs img k
 
 -- "The first match is seen, data as a part of the image."
-abbrev pub seenPart : Salvage → Part
-seenPart (Seen p) = dataPart p
-seenPart NotSeen = emptyPart
-seenPart (Refused number place) = emptyPart
+abbrev pub seenPart : Salvage → reader.Part
+seenPart s = reader.seenPart hfs s

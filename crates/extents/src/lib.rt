@@ -2,26 +2,15 @@
 ghost use mathlib.Core.Path.{_≡_};
 ghost use lib.ListN.{length};
 ghost use Rattle.btree.specs.Numbers.{lookupReply};
-ghost use Rattle.btree.specs.Search.{refused};
 ghost use Rattle.formats.specs.Key.{asked};
 ghost use Rattle.extents.specs.Reader.{checked, CheckSays, Leaves, lookedUp, foundPart, salvaged, seenPart};
-ghost use Rattle.extents.specs.Demands.{LookupSays, PartOf};
+ghost use Rattle.extents.specs.Demands.{LookupSays, SalvageSays, PartOf};
 ghost use Rattle.extents.specs.Many.{manyAnswer, manyResults, ManySays};
-ghost use Rattle.extents.specs.Salvage.{SalvageSays};
-use btree::Answer;
 use btree::Lookup;
-use btree::Path;
-use btree::Place;
 use btree::Salvage;
 use btree::Verdict;
 use btree::at_node;
-use formats::key::is_lawful;
-use formats::key::pack;
-use formats::records::data_of;
-use image::part::no_part;
-use search::descent::descend;
 use search::rows::fill;
-use search::scan::first_seen;
 
 // The first fault in the order of tests, number and place; 16 where too few bytes are lent; 0 at node 0, offset 0 for a sound image.
 pub fn check(image: &[u8], work: &mut [u8]) -> Verdict
@@ -29,23 +18,7 @@ pub fn check(image: &[u8], work: &mut [u8]) -> Verdict
     ensures says { λ r. ⌜ CheckSays (now (image .entry)) (length (now (work .entry))) r ⌝ }
     ensures leaves { λ r. ⌜ Leaves (now (image .entry)) (r .number) (now (work .entry)) (now (work .exit)) ⌝ }
 {
-    checks::check(image, work)
-}
-
-fn refusal(t: Verdict) -> Lookup
-    ensures { λ r. ⌜ r ≡ refused (t .number) (t .place) ⌝ }
-{
-    let place = t.place;
-    let answer = Answer::Refused(t.number, place);
-    let path = Path {
-        nodes: [0; 8],
-        len: 0,
-    };
-    Lookup {
-        answer,
-        path,
-        compared: 0,
-    }
+    editions::check(0, 512, image, work)
 }
 
 // What stands under a key: first the fork byte is judged, then the whole image, and only then the tree is searched.
@@ -54,14 +27,7 @@ pub fn lookup(image: &[u8], file: u32, fork: u8, start: u16, work: &mut [u8]) ->
     ensures says { λ r. ⌜ LookupSays (now (image .entry)) (asked file fork start) (length (now (work .entry))) r ⌝ }
     ensures leaves { λ r. ⌜ Leaves (now (image .entry)) (lookupReply (r .answer) .number) (now (work .entry)) (now (work .exit)) ⌝ }
 {
-    if !is_lawful(fork as u32) {
-        return refusal(at_node(11, 0));
-    }
-    let t = check(image, work);
-    if t.number != 0 {
-        return refusal(t);
-    }
-    descend(image, pack(file, fork, start))
+    editions::lookup(0, 512, image, file, fork, start as u32, work)
 }
 
 // The 12 data bytes of the record that a lookup finds, or else the empty part at the image's start.
@@ -75,13 +41,7 @@ pub fn lookup_part<'a>(
     ensures part { λ r. ⌜ PartOf (image .entry) r (foundPart (lookedUp (now (image .entry)) (asked file fork start) (length (now (work .entry))) .answer)) ⌝ }
     ensures leaves { λ _. ⌜ Leaves (now (image .entry)) (lookupReply (lookedUp (now (image .entry)) (asked file fork start) (length (now (work .entry))) .answer) .number) (now (work .entry)) (now (work .exit)) ⌝ }
 {
-    let found = lookup(image, file, fork, start, work);
-    let answer = found.answer;
-    match answer {
-        Answer::Found(place) => data_of(image, place),
-        Answer::Absent(_) => no_part(image),
-        Answer::Refused(_, _) => no_part(image),
-    }
+    editions::lookup_part(0, 512, image, file, fork, start as u32, work)
 }
 
 // What stands under each of many packed keys: the rows are measured first, then the whole image is judged once, and only then the tree is searched.
@@ -107,22 +67,12 @@ pub fn salvage(image: &[u8], file: u32, fork: u8, start: u16) -> Salvage
     ensures equal { λ r. ⌜ r ≡ salvaged (now (image .entry)) (asked file fork start) ⌝ }
     ensures says { λ r. ⌜ SalvageSays (now (image .entry)) (asked file fork start) r ⌝ }
 {
-    if !is_lawful(fork as u32) {
-        return Salvage::Refused(11, Place { node: 0, offset: 0 });
-    }
-    if image.len() > 33_554_432 {
-        return Salvage::Refused(1, Place { node: 0, offset: 0 });
-    }
-    first_seen(image, pack(file, fork, start))
+    editions::salvage(0, 512, image, file, fork, start as u32)
 }
 
 // The 12 data bytes of the record that `salvage` sees; else the empty part at the image's start.
 pub fn salvage_part<'a>(image: &'a [u8], file: u32, fork: u8, start: u16) -> &'a [u8]
     ensures { λ r. ⌜ PartOf (image .entry) r (seenPart (salvaged (now (image .entry)) (asked file fork start))) ⌝ }
 {
-    match salvage(image, file, fork, start) {
-        Salvage::Seen(place) => data_of(image, place),
-        Salvage::NotSeen => no_part(image),
-        Salvage::Refused(_, _) => no_part(image),
-    }
+    editions::salvage_part(0, 512, image, file, fork, start as u32)
 }

@@ -1,17 +1,39 @@
--- Numeric order of packed keys is key order.
+-- The order of keys is that of their numbers.
 -- Assumes nothing.
 use mathlib.Core.Path.{_≡_, sym, _∙_}
 use mathlib.Core.Logic.{_↔_}
+use mathlib.Core.Bool.{Bool, true, false}
 use mathlib.Core.List.{List}
-use Prim.Native.Nat.{ℕ, _+_, _/_, _%_, _<_}
+use Prim.Native.Nat.{ℕ, suc, _+_, _*_, _/_, _%_, _<_, _≤_}
+use native.Mathlib.Nat.{mul-le-mul-right, suc-mul}
 use native.Mathlib.Omega.{arith}
-use native.Mathlib.Decide.{decLt}
+use native.Mathlib.Decide.{ℕ-discrete, decLt}
 use lib.IntN.{ℤ, pos, negsuc}
+use lib.Dec.{eqb, ltb}
 use lib.ListN.{getD}
-use Rattle.image.specs.Bytes.{be16At}
+use borrow.Author.Tests.{eq-eqb, ne-eqb, lt-ltb, le-ltb}
+use Rattle.image.specs.Bytes.{be16At, be32At}
 use Rattle.btree.proofs.Decisions.{cond-yes, cond-no}
+use Rattle.frame.specs.declared.form.Form.{Form}
+use Rattle.frame.proofs.Forms.{if-zero, if-not, if-either}
 use Rattle.formats.specs.declared.key.Key.{Key}
-use Rattle.formats.specs.Key.{packed, unpacked, ranked, compared, keyAt}
+use Rattle.formats.specs.Key.{hfsKeyAt, plusKeyAt, keyAt, ranked, compared, rank, packed, IsShort, unpacked}
+
+-- an answer that is true below and false from there on
+pub ltb-is : (t : Bool) (x y : ℕ) → (x < y → t ≡ true) → (y ≤ x → t ≡ false) → t ≡ ltb x y
+ltb-is t x y f g = go (decLt x y)
+  where
+    go : Dec (x < y) → t ≡ ltb x y
+    go (yes p) = f p ∙ sym (lt-ltb x y p)
+    go (no n) = let h : y ≤ x = omega arith in g h ∙ sym (le-ltb x y h)
+
+-- two comparisons with one answer
+pub eqb-as : (a b x y : ℕ) → (a ≡ b → x ≡ y) → (x ≡ y → a ≡ b) → eqb a b ≡ eqb x y
+eqb-as a b x y f g = go (ℕ-discrete a b)
+  where
+    go : Dec (a ≡ b) → eqb a b ≡ eqb x y
+    go (yes p) = eq-eqb a b p ∙ sym (eq-eqb x y (f p))
+    go (no n) = ne-eqb a b n ∙ sym (ne-eqb x y (λ e. n (g e)))
 
 pub ranked-below : (a b : ℕ) (x : ℤ) → a < b → ranked a b x ≡ negsuc 0
 ranked-below a b x h = cond-yes (decLt a b) _ _ h
@@ -25,7 +47,7 @@ ranked-same a b x h = cond-no (decLt a b) _ _ (omega arith) ∙ cond-no (decLt b
 -- the fields of a key in an image, and of one that is asked for
 pub record InRange (k : Key) : Type 0 where
   pub fork : k .fork < 256
-  pub start : k .start < 65536
+  pub start : k .start < 4294967296
 
 -- by one field: below or above decides, and equal goes on
 by-field : (m n c d : ℕ) (x y : ℤ) → (m < n → c < d) → (n < m → d < c) → (m ≡ n → x ≡ ranked c d y) → ranked m n x ≡ ranked c d y
@@ -36,18 +58,40 @@ by-field m n c d x y lo hi same = go (decLt m n) (decLt n m)
     go (no p) (yes q) = ranked-above m n x q ∙ sym (ranked-above c d y (hi q))
     go (no p) (no q) = let e : m ≡ n = omega arith in ranked-same m n x e ∙ same e
 
--- "numeric order is key order"
-pub packed-order : (a b : Key) → InRange a → InRange b → compared a b ≡ ranked (packed a) (packed b) (pos 0)
-unfolding compared packed
-packed-order a b ra rb =
-    by-field (a .file) (b .file) _ _ _ _ (λ h. omega arith) (λ h. omega arith)
-    (λ f. by-field (a .fork) (b .fork) _ _ _ _ (λ h. omega arith) (λ h. omega arith)
-    (λ g. by-field (a .start) (b .start) _ _ _ _ (λ h. omega arith) (λ h. omega arith)
-    (λ e. sym (ranked-same _ _ _ (omega arith)))))
+-- keys as numbers with room for w start blocks
+module _ (w : ℕ) where
+  abbrev spread : Key → ℕ
+  spread k = (k .file * 256 + k .fork) * w + k .start
 
--- an answer by the fields is one by the packed numbers
-pub by-packed : (a b : Key) (z : ℤ) → InRange a → InRange b → compared a b ≡ z → (z ≡ compared a b) × (z ≡ ranked (packed a) (packed b) (pos 0))
-by-packed a b z ra rb e = (sym e, sym e ∙ packed-order a b ra rb)
+  -- the higher part decides
+  high-less : (h k l m : ℕ) → h < k → l < w → h * w + l < k * w + m
+  high-less h k l m a b = let p : suc h * w ≤ k * w = mul-le-mul-right w a in let e = suc-mul h w in omega arith
+
+  spread-order : (a b : Key) → a .fork < 256 → b .fork < 256 → a .start < w → b .start < w → compared a b ≡ ranked (spread a) (spread b) (pos 0)
+  unfolding compared
+  spread-order a b fa fb sa sb =
+      by-field (a .file) (b .file) _ _ _ _ (λ h. high-less _ _ _ _ (omega arith) sa) (λ h. high-less _ _ _ _ (omega arith) sb)
+      (λ f. by-field (a .fork) (b .fork) _ _ _ _ (λ h. high-less _ _ _ _ (omega arith) sa) (λ h. high-less _ _ _ _ (omega arith) sb)
+      (λ g. let e : a .file * 256 + a .fork ≡ b .file * 256 + b .fork = omega arith in
+      rw e (by-field (a .start) (b .start) _ _ _ _ (λ h. omega arith) (λ h. omega arith)
+      (λ s. sym (ranked-same _ _ _ (omega arith))))))
+
+pub rank-order : (a b : Key) → InRange a → InRange b → compared a b ≡ ranked (rank a) (rank b) (pos 0)
+unfolding rank
+rank-order a b ra rb = spread-order 4294967296 a b (ra .fork) (rb .fork) (ra .start) (rb .start)
+
+packed-spread : (k : Key) → packed k ≡ spread 65536 k
+unfolding packed
+packed-spread k = omega arith
+
+-- "numeric order is key order"
+pub packed-order : (a b : Key) → InRange a → InRange b → IsShort a → IsShort b → compared a b ≡ ranked (packed a) (packed b) (pos 0)
+packed-order a b ra rb sa sb = rw (packed-spread a, packed-spread b) (spread-order 65536 a b (ra .fork) (rb .fork) sa sb)
+
+-- an answer by the fields is one by either number
+pub by-numbers : (a b : Key) (z : ℤ) → InRange a → InRange b → compared a b ≡ z
+    → (z ≡ compared a b) × ((z ≡ ranked (rank a) (rank b) (pos 0)) × (IsShort a → IsShort b → z ≡ ranked (packed a) (packed b) (pos 0)))
+by-numbers a b z ra rb e = (sym e, (sym e ∙ rank-order a b ra rb, λ sa sb. sym e ∙ packed-order a b ra rb sa sb))
 
 -- the first field in which the keys differ decides
 module _ (a b : Key) where
@@ -72,23 +116,41 @@ ranked-zero a b e = go (decLt a b) (decLt b a)
     go (no p) (yes q) = let x = ranked-above a b (pos 0) q in let z : _≡_ {A = ℕ} 0 1 = cc in absurd (omega arith)
     go (no p) (no q) = omega arith
 
--- keys compare as 0 exactly when their packed numbers are equal
-pub packed-same : (a b : Key) → InRange a → InRange b → (compared a b ≡ pos 0) ↔ (packed a ≡ packed b)
-packed-same a b ra rb = (λ e. ranked-zero _ _ (sym (packed-order a b ra rb) ∙ e), λ e. packed-order a b ra rb ∙ ranked-same _ _ _ e)
+-- keys compare as 0 exactly when their numbers are equal
+pub rank-same : (a b : Key) → InRange a → InRange b → (compared a b ≡ pos 0) ↔ (rank a ≡ rank b)
+rank-same a b ra rb = (λ e. ranked-zero _ _ (sym (rank-order a b ra rb) ∙ e), λ e. rank-order a b ra rb ∙ ranked-same _ _ _ e)
 
 -- every byte of the image is one
 abbrev pub Bytes : List ℕ → Type 0
 Bytes img = (i : ℕ) → getD img i 0 < 256
 
-pub key-range : (img : List ℕ) → Bytes img → (at : ℕ) → InRange (keyAt img at)
-unfolding be16At
-key-range img b at = record { fork = b (at + 1); start = let x = b (at + 6) in let y = b (at + 6 + 1) in omega arith }
+module _ (form : Form) (img : List ℕ) (at : ℕ) where
+  pub key-hfs : form .edition ≡ 0 → keyAt form img at ≡ hfsKeyAt img at
+  unfolding keyAt
+  key-hfs e = if-zero (form .edition) _ _ e
 
-pub packed-fork : (a b : Key) → InRange a → InRange b → packed a ≡ packed b → a .fork ≡ b .fork
-unfolding packed
-packed-fork a b ra rb e = omega arith
+  pub key-plus : (form .edition ≡ 0 → ⊥) → keyAt form img at ≡ plusKeyAt img at
+  unfolding keyAt
+  key-plus h = if-not (form .edition) _ _ h
 
--- a packed number stands for one key, and every key has one
+module _ (form : Form) (img : List ℕ) (b : Bytes img) (at : ℕ) where
+  hfs-range : InRange (hfsKeyAt img at)
+  unfolding be16At
+  hfs-range = record { fork = b (at + 1); start = let x = b (at + 6) in let y = b (at + 6 + 1) in omega arith }
+
+  plus-range : InRange (plusKeyAt img at)
+  unfolding be32At
+  plus-range = record { fork = b (at + 2); start = let x = b (at + 8) in let y = b (at + 8 + 1) in let z = b (at + 8 + 2) in let w = b (at + 8 + 3) in omega arith }
+
+  pub key-range : InRange (keyAt form img at)
+  unfolding keyAt
+  key-range = if-either InRange (form .edition) _ _ hfs-range plus-range
+
+pub rank-fork : (a b : Key) → InRange a → InRange b → rank a ≡ rank b → a .fork ≡ b .fork
+unfolding rank
+rank-fork a b ra rb e = omega arith
+
+-- a packed number stands for one key, and every HFS key has one
 pub unpacked-range : (number : ℕ) → InRange (unpacked number)
 unpacked-range number = record { fork = omega arith; start = omega arith }
 
@@ -96,15 +158,27 @@ pub packed-unpacked : (number : ℕ) → packed (unpacked number) ≡ number
 unfolding packed
 packed-unpacked number = omega arith
 
-pub unpacked-packed : (k : Key) → InRange k → unpacked (packed k) ≡ k
+pub unpacked-packed : (k : Key) → InRange k → IsShort k → unpacked (packed k) ≡ k
 unfolding packed
-unpacked-packed k r = rw (file, fork, start)
+unpacked-packed k r b = rw (file, fork, start)
   where
     file : packed k / 16777216 ≡ k .file
-    file = let a = r .fork in let b = r .start in omega arith
+    file = let a = r .fork in omega arith
 
     fork : packed k / 65536 % 256 ≡ k .fork
-    fork = let a = r .fork in let b = r .start in omega arith
+    fork = let a = r .fork in omega arith
 
     start : packed k % 65536 ≡ k .start
-    start = let a = r .start in omega arith
+    start = omega arith
+
+-- the start block of an HFS key has two bytes, so a record with the asked key shows that its own has
+pub short-start : (form : Form) (img : List ℕ) → Bytes img → (k : Key) → InRange k → (at : ℕ) → form .edition ≡ 0 → compared (keyAt form img at) k ≡ pos 0 → IsShort k
+unfolding be16At rank
+short-start form img b k r at e h =
+    let q = rw (key-hfs form img at e) at (rank-same (keyAt form img at) k (key-range form img b at) r .0 h) in
+    let f = b (at + 1) in
+    let x = b (at + 6) in
+    let y = b (at + 6 + 1) in
+    let g = r .fork in
+    let s = r .start in
+    omega arith

@@ -1,10 +1,13 @@
 // The key of an extents record.
 ghost use mathlib.Core.Path.{_≡_};
 ghost use Prim.Native.Nat.{_+_, _<_, _≤_};
+ghost use lib.Dec.{eqb, ltb};
 ghost use lib.IntN.{pos};
 ghost use lib.ListN.{length};
 ghost use Rattle.btree.specs.Decide.{says};
-ghost use Rattle.formats.specs.Key.{decLawful, packed, decKey, ranked, compared, keyAt, asked};
+ghost use Rattle.formats.specs.Key.{decLawful, keyAt, asked, ranked, compared, rank, rankOf, packed, IsShort, unpacked, decKey};
+ghost use Rattle.formats.specs.Format.{keySize};
+use frame::form::Form;
 use image::bytes::be16;
 use image::bytes::be32;
 use image::bytes::byte_at;
@@ -16,13 +19,20 @@ use image::within::byte_in;
 pub struct Key {
     pub file: u32,
     pub fork: u8,
-    pub start: u16,
+    pub start: u32,
+}
+
+// A key as it is compared: file number and fork byte as one number, then the start block.
+pub struct SortKey {
+    pub owner: u64,
+    pub start: u32,
 }
 
 // -1, 0 or 1: file number, then fork as an unsigned byte, then start block.
 pub fn compare(a: Key, b: Key) -> i32
     ensures equal { λ r. ⌜ r ≡ compared a b ⌝ }
-    ensures order { λ r. ⌜ r ≡ ranked (packed a) (packed b) (pos 0) ⌝ }
+    ensures order { λ r. ⌜ r ≡ ranked (rank a) (rank b) (pos 0) ⌝ }
+    ensures packed { λ r. ⌜ (IsShort a → IsShort b → r ≡ ranked (packed a) (packed b) (pos 0)) ⌝ }
 {
     if a.file < b.file {
         return -1;
@@ -55,11 +65,12 @@ pub fn is_lawful(fork: u32) -> bool
     fork == 255
 }
 
-// The packed number of a key; numeric order is key order.
-pub fn pack(file: u32, fork: u8, start: u16) -> u64
-    ensures { λ r. ⌜ (r ≡ packed (asked file fork start)) × (r < 72057594037927936) ⌝ }
+// An asked key, to be compared.
+pub fn sort_key(file: u32, fork: u8, start: u32) -> SortKey
+    ensures { λ r. ⌜ rankOf r ≡ rank (asked file fork start) ⌝ }
 {
-    (file as u64) * 16_777_216 + (fork as u64) * 65_536 + (start as u64)
+    let owner = (file as u64) * 256 + (fork as u64);
+    SortKey { owner, start }
 }
 
 // Whether a packed number is a key's: below 2 to the 56, with a lawful fork byte.
@@ -72,30 +83,83 @@ pub fn is_key(number: u64) -> bool
     is_lawful((number / 65_536 % 256) as u32)
 }
 
-// The packed key that stands at a byte of the image, which has it whole.
-pub fn key_in(image: &[u8], at: usize) -> u64
-    requires { ⌜ at + 8 ≤ length (now image) ⌝ }
-    ensures { λ r. ⌜ (r ≡ packed (keyAt (now (image .entry)) at)) × (r < 72057594037927936) ⌝ }
+// The key of a packed number, to be compared.
+pub fn unpack(number: u64) -> SortKey
+    ensures { λ r. ⌜ rankOf r ≡ rank (unpacked number) ⌝ }
 {
-    let file = be32_in(image, at + 2) as u64;
-    let fork = byte_in(image, at + 1) as u64;
-    let start = be16_in(image, at + 6) as u64;
-    file * 16_777_216 + fork * 65_536 + start
+    let owner = number / 65_536;
+    let start = (number % 65_536) as u32;
+    SortKey { owner, start }
 }
 
-// The packed key that stands at a byte of the image: one test for all its bytes.
-pub fn key_at(image: &[u8], at: usize) -> u64
-    requires { ⌜ at < 100000000000000 ⌝ }
-    ensures { λ r. ⌜ (r ≡ packed (keyAt (now (image .entry)) at)) × (r < 72057594037927936) ⌝ }
+pub fn is_below(a: SortKey, b: SortKey) -> bool
+    ensures { λ r. ⌜ r ≡ ltb (rankOf a) (rankOf b) ⌝ }
 {
-    if image.len() >= 8 {
-        if at <= image.len() - 8 {
-            return key_in(image, at);
+    // One of two comparisons, so that no branch is taken on the owners.
+    if a.start < b.start {
+        a.owner <= b.owner
+    } else {
+        a.owner < b.owner
+    }
+}
+
+pub fn is_same(a: SortKey, b: SortKey) -> bool
+    ensures { λ r. ⌜ r ≡ eqb (rankOf a) (rankOf b) ⌝ }
+{
+    if a.owner != b.owner {
+        return false;
+    }
+    a.start == b.start
+}
+
+// The key that stands at a byte of the image, which has it whole.
+pub fn key_in(form: Form, image: &[u8], at: usize) -> SortKey
+    requires { ⌜ at + keySize form ≤ length (now image) ⌝ }
+    ensures { λ r. ⌜ rankOf r ≡ rank (keyAt form (now (image .entry)) at) ⌝ }
+{
+    if form.edition == 0 {
+        let file = be32_in(image, at + 2) as u64;
+        let fork = byte_in(image, at + 1) as u64;
+        let start = be16_in(image, at + 6);
+        let owner = file * 256 + fork;
+        return SortKey { owner, start };
+    }
+    let file = be32_in(image, at + 4) as u64;
+    let fork = byte_in(image, at + 2) as u64;
+    let start = be32_in(image, at + 8);
+    let owner = file * 256 + fork;
+    SortKey { owner, start }
+}
+
+// The key that stands at a byte of the image, where this may end before the key does.
+fn key_past(form: Form, image: &[u8], at: usize) -> SortKey
+    requires { ⌜ at < 1000000000000000 ⌝ }
+    ensures { λ r. ⌜ rankOf r ≡ rank (keyAt form (now (image .entry)) at) ⌝ }
+{
+    if form.edition == 0 {
+        let file = be32(image, at + 2) as u64;
+        let fork = byte_at(image, at + 1) as u64;
+        let start = be16(image, at + 6);
+        let owner = file * 256 + fork;
+        return SortKey { owner, start };
+    }
+    let file = be32(image, at + 4) as u64;
+    let fork = byte_at(image, at + 2) as u64;
+    let start = be32(image, at + 8);
+    let owner = file * 256 + fork;
+    SortKey { owner, start }
+}
+
+// The key that stands at a byte of the image: one test for all its bytes.
+pub fn key_at(form: Form, image: &[u8], at: usize) -> SortKey
+    requires { ⌜ at < 1000000000000000 ⌝ }
+    ensures { λ r. ⌜ rankOf r ≡ rank (keyAt form (now (image .entry)) at) ⌝ }
+{
+    // No key is longer.
+    if image.len() >= 12 {
+        if at <= image.len() - 12 {
+            return key_in(form, image, at);
         }
     }
-    // The image ends before the last byte.
-    let file = be32(image, at + 2) as u64;
-    let fork = byte_at(image, at + 1) as u64;
-    let start = be16(image, at + 6) as u64;
-    file * 16_777_216 + fork * 65_536 + start
+    key_past(form, image, at)
 }

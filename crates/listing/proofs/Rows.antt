@@ -12,8 +12,7 @@ use Rattle.btree.specs.Tree.{View, Rec, recordCount, leavesAt, SoundTree, LeafT
 use Rattle.btree.specs.Search.{recordOf, recordsOf, leafList}
 use Rattle.btree.proofs.Leaves.{leafList-leaves}
 use Rattle.btree.specs.Header.{leafRecordsOf, viewOf}
-use Rattle.formats.specs.Format.{view}
-use Rattle.extents.specs.Reader.{Sound}
+use Rattle.extents.specs.Reader.{Sound, view}
 use Rattle.btree.proofs.Along.{along-on, along-end}
 use Rattle.listing.specs.declared.Row.{Row}
 use Rattle.listing.specs.declared.Row.the-variants.{Record, NoRecord}

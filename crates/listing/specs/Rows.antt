@@ -7,6 +7,7 @@ use mathlib.Core.List.{List, [], _∷_}
 use Prim.Native.Nat.{ℕ, zero, suc, _+_, _≤_}
 use Rattle.image.specs.Bytes.{be16At}
 use Rattle.btree.specs.Tree.{Rec}
+use Rattle.frame.specs.Form.{hfs}
 use Rattle.formats.specs.declared.key.Key.{Key}
 use Rattle.formats.specs.Key.{keyAt}
 use Rattle.formats.specs.Format.{recordAt, dataAt}
@@ -44,4 +45,4 @@ pairsAt img at =
 
 -- the nine numbers of a line, of record i of the node n
 unfoldable pub fieldsOf : List ℕ → ℕ → ℕ → List ℕ
-fieldsOf img n i = keyFields (keyAt img (recordAt img n i)) (pairsAt img (dataAt (recordAt img n i)))
+fieldsOf img n i = keyFields (keyAt hfs img (recordAt hfs img n i)) (pairsAt img (dataAt hfs (recordAt hfs img n i)))

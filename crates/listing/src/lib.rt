@@ -5,8 +5,9 @@ ghost use Rattle.btree.specs.Header.{leafRecordsOf};
 ghost use Rattle.extents.specs.Reader.{Sound, leafList};
 ghost use Rattle.listing.specs.Rows.{leafRow, EndsAt, fieldsOf};
 use formats::records::record_at;
-use hfs::node::count_of;
-use hfs::node::forward_of;
+use frame::form::of_hfs;
+use frame::node::count_of;
+use frame::node::forward_of;
 use image::bytes::be16;
 use image::bytes::be32;
 use image::bytes::byte_at;
@@ -37,12 +38,12 @@ pub fn leaf_record(image: &[u8], k: u32) -> Row
         if node == 0 {
             return Row::NoRecord;
         }
-        let c = count_of(image, node);
+        let c = count_of(of_hfs(), image, node);
         if left < c {
             return Row::Record(node, left);
         }
         left -= c;
-        node = forward_of(image, node);
+        node = forward_of(of_hfs(), image, node);
         links -= 1;
     }
     Row::NoRecord
@@ -52,7 +53,7 @@ pub fn leaf_record(image: &[u8], k: u32) -> Row
 pub fn row_fields(image: &[u8], node: u32, i: u32) -> [u32; 9]
     ensures { λ r. ⌜ r ≡ fieldsOf (now (image .entry)) node i ⌝ }
 {
-    let key = record_at(image, node, i);
+    let key = record_at(of_hfs(), image, node, i);
     let data = key + 8;
     [
         be32(image, key + 2),

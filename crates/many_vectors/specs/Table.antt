@@ -8,8 +8,8 @@ use Rattle.btree.specs.declared.Verdict.{Verdict}
 use Rattle.btree.specs.Places.{byteOf}
 use Rattle.btree.specs.Walk.{fails}
 use Rattle.btree.specs.Work.{workLeft}
-use Rattle.hfs.specs.Hfs.{hfs}
-use Rattle.formats.specs.Format.{format}
+use Rattle.frame.specs.Form.{hfs, layoutOf}
+use Rattle.formats.specs.Format.{formatOf}
 use Rattle.extents.specs.Many.{manyAnswer, manyResults}
 use Rattle.vectors.specs.Build.{keyBytes, E1, L1, twoLeaves, threeLevelsUnder}
 
@@ -29,7 +29,7 @@ abbrev pub Right : Case → Type 0
 Right c =
     (manyAnswer (c .image) (c .keys) (c .before .results) (length (c .before .work)) ≡ c .answer)
     × (manyResults (c .image) (c .keys) (c .before .results) (length (c .before .work)) ≡ c .after .results)
-    × (workLeft hfs (c .image) format (c .answer .number) (c .before .work) ≡ c .after .work)
+    × (workLeft (layoutOf hfs) (c .image) (formatOf hfs) (c .answer .number) (c .before .work) ≡ c .after .work)
 
 abbrev rows : List ℕ → List ℕ → Rows
 rows results work = record { results = results; work = work }

@@ -1,6 +1,7 @@
 -- What the code keeps of the header and the map chain, and when it may go on to the map bits.
 -- Assumes nothing.
 use mathlib.Core.Path.{_≡_}
+use mathlib.Core.Option.{Option, none, some}
 use mathlib.Core.List.{List, [], _∷_}
 use Prim.Native.Nat.{ℕ, suc, _*_, _/_, _≤_, _<_}
 use lib.ListN.{length}
@@ -9,27 +10,38 @@ use Rattle.btree.specs.Header.{totalOf, mapNodes}
 use Rattle.btree.specs.Image.{Lengths, MapChain}
 use Rattle.btree.specs.Walk.{fails}
 use Rattle.btree.specs.Tests.{bitFor, chainFrom}
+use Rattle.frame.specs.declared.form.Form.{Form}
+use Rattle.frame.specs.Form.{layoutOf, Fair}
+use Rattle.map.specs.declared.bits.Wrong.{Wrong}
+use Rattle.map.specs.declared.bits.Wrong.the-variants.{At, Nowhere}
 use Rattle.map.specs.declared.chain.Chain.{Chain}
-use Rattle.hfs.specs.Hfs.{hfs}
 
 -- the bits set are those of these nodes
 abbrev pub Marks : List ℕ → List ℕ → Type 0
 Marks bits nodes = (n : ℕ) → bitOf bits n ≡ bitFor nodes n
 
--- the bytes have a bit for each node
-pub record Room (img bits : List ℕ) : Type 0 where
-  pub some : 0 < totalOf img
-  pub few : totalOf img ≤ 65536
-  pub enough : totalOf img ≤ 8 * length bits
+-- a wrong bit, as the code has it
+abbrev pub wrongOf : Wrong → Option ℕ
+wrongOf (At k) = some k
+wrongOf Nowhere = none
 
--- what the walk along the chain gives, and the bits that it leaves
-pub record ChainOf (img bits : List ℕ) (r : Chain) : Type 0 where
-  pub verdict : fails (r .number) (r .place) ≡ chainFrom hfs img [] 0 (mapNodes hfs img)
-  pub marks : r .number ≡ 0 → Marks bits (0 ∷ mapNodes hfs img)
-  pub count : r .number ≡ 0 → r .nodes ≡ suc (length (mapNodes hfs img))
+module _ (form : Form) (img : List ℕ) where
+  -- the bytes have a bit for each node
+  pub record Room (bits : List ℕ) : Type 0 where
+    pub fair : Fair form
+    pub some : 0 < totalOf img
+    pub few : totalOf img ≤ 65536
+    pub enough : totalOf img ≤ 8 * length bits
 
--- an image whose length, total and map chain are right
-pub record Framed (img : List ℕ) : Type 0 where
-  pub lengths : Lengths hfs img
-  pub totalNodes : totalOf img ≡ length img / 512
-  pub chain : MapChain hfs img
+  -- what the walk along the chain gives, and the bits that it leaves
+  pub record ChainOf (bits : List ℕ) (r : Chain) : Type 0 where
+    pub verdict : fails (r .number) (r .place) ≡ chainFrom (layoutOf form) img [] 0 (mapNodes (layoutOf form) img)
+    pub marks : r .number ≡ 0 → Marks bits (0 ∷ mapNodes (layoutOf form) img)
+    pub count : r .number ≡ 0 → r .nodes ≡ suc (length (mapNodes (layoutOf form) img))
+
+  -- an image whose length, total and map chain are right
+  pub record Framed : Type 0 where
+    pub fair : Fair form
+    pub lengths : Lengths (layoutOf form) img
+    pub totalNodes : totalOf img ≡ length img / form .size
+    pub chain : MapChain (layoutOf form) img

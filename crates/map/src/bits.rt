@@ -1,27 +1,35 @@
 // Test 9, the map bits; test 10, the free count.
 ghost use mathlib.Core.Path.{_≡_};
 ghost use mathlib.Core.List.{List};
-ghost use Prim.Native.Nat.{ℕ, _*_, _<_, _≤_};
+ghost use Prim.Native.Nat.{ℕ, _*_, _≤_};
 ghost use lib.ListN.{length};
 ghost use Rattle.image.specs.Bit.{bitOf};
-ghost use Rattle.btree.specs.Hits.{hitOf};
 ghost use Rattle.btree.specs.Tests.{lowestWrong, bitTest, mapTests};
-ghost use Rattle.hfs.specs.Hfs.{hfs};
-ghost use Rattle.map.specs.Frame.{Marks, Framed};
-use btree::Hit;
+ghost use Rattle.frame.specs.Form.{layoutOf};
+ghost use Rattle.map.specs.Frame.{Marks, Framed, wrongOf};
 use btree::Verdict;
 use btree::at_byte;
 use btree::at_node;
-use hfs::node::forward_of;
+use frame::form::Form;
+use frame::form::header_map;
+use frame::form::node_map;
+use frame::node::forward_of;
+use frame::node::start_of;
 use image::bytes::be32;
 use image::bytes::byte_at;
 
+// The lowest wrong bit. Maps of 65,536 nodes can have more bits than a u32 counts.
+pub enum Wrong {
+    At(usize),
+    Nowhere,
+}
+
 // The lowest wrong bit in one map record, whose first byte is the map's byte `first`: bytes outside, bits inside.
-fn wrong_in(map: &[u8], bits: &[u8], first: usize) -> Hit
-    requires { ⌜ (length (now map) ≤ 512) × (first < 40000000) ⌝ }
-    ensures { λ r. ⌜ r ≡ hitOf (lowestWrong (bitOf (now (bits .entry))) (8 * first) (now (map .entry))) ⌝ }
+fn wrong_in(map: &[u8], bits: &[u8], first: usize) -> Wrong
+    requires { ⌜ (length (now map) ≤ 32768) × (first ≤ 4294967296) ⌝ }
+    ensures { λ r. ⌜ wrongOf r ≡ lowestWrong (bitOf (now (bits .entry))) (8 * first) (now (map .entry)) ⌝ }
 {
-    let mut found = Hit::Nowhere;
+    let mut found = Wrong::Nowhere;
     let mut i: usize = 0;
     'bytes: while i < map.len() {
         let x = map[i] as u32;
@@ -30,7 +38,7 @@ fn wrong_in(map: &[u8], bits: &[u8], first: usize) -> Hit
             let mut j: u32 = 0;
             'bits: while j < 8 {
                 if (x >> (7 - j)) & 1 != (y >> (7 - j)) & 1 {
-                    found = Hit::At(((first + i) * 8) as u32 + j);
+                    found = Wrong::At((first + i) * 8 + (j as usize));
                     break 'bytes;
                 }
                 j += 1;
@@ -42,37 +50,39 @@ fn wrong_in(map: &[u8], bits: &[u8], first: usize) -> Hit
 }
 
 // Test 9, in the header's map record and then along the chain: the byte in its node that has the bit.
-fn bit_test(image: &[u8], bits: &[u8]) -> Verdict
-    requires { ⌜ Framed (now image) ⌝ }
-    ensures { λ r. ⌜ r ≡ bitTest hfs (now (image .entry)) (bitOf (now (bits .entry))) ⌝ }
+fn bit_test(form: Form, image: &[u8], bits: &[u8]) -> Verdict
+    requires { ⌜ Framed form (now image) ⌝ }
+    ensures { λ r. ⌜ r ≡ bitTest (layoutOf form) (now (image .entry)) (bitOf (now (bits .entry))) ⌝ }
 {
-    if let Hit::At(bit) = wrong_in(&image[248..504], bits, 0) {
-        return at_byte(9, 0, 248 + bit / 8);
+    let header = header_map(form);
+    if let Wrong::At(bit) = wrong_in(&image[248..248 + header], bits, 0) {
+        return at_byte(9, 0, (248 + bit / 8) as u32);
     }
-    let mut first: usize = 256;
-    let mut node = forward_of(image, 0);
+    let each = node_map(form);
+    let mut first = header;
+    let mut node = forward_of(form, image, 0);
     let mut left = be32(image, 36);
     while left > 0 {
         if node == 0 {
             break;
         }
-        let at = (node as usize) * 512 + 14;
-        if let Hit::At(bit) = wrong_in(&image[at..at + 494], bits, first) {
-            return at_byte(9, node, 14 + (bit / 8 - (first as u32)));
+        let at = start_of(form, node) + 14;
+        if let Wrong::At(bit) = wrong_in(&image[at..at + each], bits, first) {
+            return at_byte(9, node, (14 + (bit / 8 - first)) as u32);
         }
-        first += 494;
-        node = forward_of(image, node);
+        first += each;
+        node = forward_of(form, image, node);
         left -= 1;
     }
     at_node(0, 0)
 }
 
 // Tests 9 and 10, where the bits set are those of the nodes reached from the header, and there are so many.
-pub fn map_tests(image: &[u8], bits: &[u8], nodes: u32) -> Verdict
-    requires { ⌜ Framed (now image) ⌝ }
-    ensures { λ r. ⌜ ((ns : List ℕ) → Marks (now (bits .entry)) ns → nodes ≡ length ns → r ≡ mapTests hfs (now (image .entry)) ns) ⌝ }
+pub fn map_tests(form: Form, image: &[u8], bits: &[u8], nodes: u32) -> Verdict
+    requires { ⌜ Framed form (now image) ⌝ }
+    ensures { λ r. ⌜ ((ns : List ℕ) → Marks (now (bits .entry)) ns → nodes ≡ length ns → r ≡ mapTests (layoutOf form) (now (image .entry)) ns) ⌝ }
 {
-    let t = bit_test(image, bits);
+    let t = bit_test(form, image, bits);
     if t.number != 0 {
         return t;
     }

@@ -1,3 +1,3 @@
-// The map of a B*-tree file of an HFS volume: tests 3, 9 and 10.
+// The map of a B*-tree file: tests 3, 9 and 10.
 pub mod bits;
 pub mod chain;

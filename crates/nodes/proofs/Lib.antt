@@ -1,4 +1,3 @@
 pub mod Telling
-pub mod Bounds
-pub mod Ascent
-pub mod Whole
+pub mod Lawfully
+pub mod Within

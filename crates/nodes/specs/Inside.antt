@@ -4,14 +4,16 @@ use mathlib.Core.List.{List}
 use Prim.Native.Nat.{ℕ, _+_, _*_, _≤_}
 use lib.ListN.{length}
 use Rattle.btree.specs.Header.{countOf}
-use Rattle.hfs.specs.Hfs.{hfs}
-use Rattle.formats.specs.Format.{maxRecords, kindOf}
+use Rattle.frame.specs.declared.form.Form.{Form}
+use Rattle.frame.specs.Form.{layoutOf, Fair}
+use Rattle.formats.specs.Format.{Holds, kindOf}
 
 -- the image has the node
-abbrev pub NodeIn : List ℕ → ℕ → Type 0
-NodeIn img n = n * 512 + 512 ≤ length img
+pub record NodeIn (form : Form) (img : List ℕ) (n : ℕ) : Type 0 where
+  pub fair : Fair form
+  pub inside : n * form .size + form .size ≤ length img
 
 -- and the node has room for its records
-pub record RecordsIn (img : List ℕ) (n : ℕ) : Type 0 where
-  pub node : NodeIn img n
-  pub few : countOf hfs img n ≤ maxRecords (kindOf img n)
+pub record RecordsIn (form : Form) (img : List ℕ) (n : ℕ) : Type 0 where
+  pub node : NodeIn form img n
+  pub few : Holds form (kindOf form img n) (countOf (layoutOf form) img n)

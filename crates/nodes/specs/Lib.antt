@@ -1,4 +1,3 @@
 pub mod Tells
-pub mod Bound
 pub mod Inside
-pub mod Whole
+pub mod Lawfully

@@ -12,16 +12,17 @@ use Rattle.btree.specs.Search.{halvedIn, lookupOf}
 use Rattle.btree.specs.Image.{mapBytes}
 use Rattle.btree.specs.Tests.{decDescriptor, decNoTree, wrongIn, lowestWrong, bitFor, decLengths, decMapNode, decHeaderNode, chainFrom, mapRecordPlace, mapBytePlace, bitTest, mapTests, verdict}
 use Rattle.btree.specs.Work.{checked}
-use Rattle.formats.specs.Key.{decLawful, packed}
-use Rattle.formats.specs.Format.{recordSize, maxRecords, kindOn, kindOf, recordOffset, decRecords, decNodeOn}
-use Rattle.nodes.specs.Whole.{decWholeLeaf}
+use Rattle.formats.specs.Key.{decLawful, keyAt, rank}
+use Rattle.frame.specs.Form.{keyLength, nodeMapOf}
+use Rattle.formats.specs.Format.{kindOn, keySize, dataSize, recordSize, kindOf, recordOffset, lengthAt, decRecords, decNodeOn}
+use Rattle.order.specs.Whole.{decWholeLeaf}
 use Rattle.search.specs.Seen.{seenIn, seenFrom}
-use Rattle.extents.specs.Reader.{salvaged}
+use Rattle.reader.specs.Reader.{salvaged}
 use Rattle.vectors.specs.Build.{All}
 use Rattle.vectors.specs.Bench.{Right}
 use Rattle.place_vectors.specs.Table.{places}
 
 pub places-right : All Right places
-unfolding Dec·and Dec·not decLe decLt ℕ-discrete be16At be32At says map-dec decImp decOr decMem decAll firstNot decIfSome decFresh decKeyRight wrongKey decLeads decTotals test ends closing walk halving halved halvedIn lookupOf mapBytes decDescriptor decNoTree wrongIn lowestWrong bitFor decLengths decMapNode decHeaderNode chainFrom mapRecordPlace mapBytePlace bitTest mapTests verdict checked decLawful packed recordSize maxRecords kindOn kindOf recordOffset decRecords decNodeOn viewOf decWholeLeaf seenIn seenFrom salvaged
+unfolding Dec·and Dec·not decLe decLt ℕ-discrete be16At be32At says map-dec decImp decOr decMem decAll firstNot decIfSome decFresh decKeyRight wrongKey decLeads decTotals test ends closing walk halving halved halvedIn lookupOf mapBytes decDescriptor decNoTree wrongIn lowestWrong bitFor decLengths decMapNode decHeaderNode chainFrom mapRecordPlace mapBytePlace bitTest mapTests verdict checked decLawful keyAt rank keyLength nodeMapOf kindOn keySize dataSize recordSize kindOf recordOffset lengthAt decRecords decNodeOn viewOf decWholeLeaf seenIn seenFrom salvaged
 places-right =
     (refl, (refl, (refl, (refl, (refl, (refl, (refl, (refl, (refl, (refl, (refl, (refl, (refl, (refl, (refl, (refl, (refl, (refl, (refl, (refl, (refl, (refl, (refl, (refl, (refl, (refl, tt))))))))))))))))))))))))))

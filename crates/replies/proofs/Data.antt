@@ -1,14 +1,17 @@
--- Lists of a known length: eight nodes of a path, twelve bytes of data.
+-- Lists of a known length: eight nodes of a path, bytes of data.
 -- Assumes nothing.
 use mathlib.Core.Path.{_≡_, refl, sym, ap, _∙_}
 use mathlib.Core.List.{List, [], _∷_}
-use Prim.Native.Nat.{ℕ, zero, suc, _+_, _<_}
+use Prim.Native.Nat.{ℕ, zero, suc, _+_, _-_, _≤_, _<_}
 use native.Mathlib.Omega.{arith}
+use native.Mathlib.Decide.{decLt}
 use native.Mathlib.Nat.{le-of-suc-le-suc, not-suc-le-zero}
-use lib.ListN.{length, getD, take, drop, set}
-use lib.Seq.{ext-getD, getD-drop, getD-set-same, getD-set-other}
+use lib.ListN.{length, getD, take, drop, set, replicate}
+use lib.Seq.{ext-getD, getD-take, getD-drop, getD-set-same, getD-set-other}
 use borrow.Author.Count.{below-more}
 use Rattle.btree.specs.Lists.{padded}
+use Rattle.reader.specs.Reader.{Part}
+use Rattle.replies.specs.Written.{dataBytes, wideBytes}
 
 padded-length : (n : ℕ) (xs : List ℕ) → length (padded n xs) ≡ n
 padded-length zero xs = refl
@@ -22,21 +25,35 @@ padded-at (suc n) [] (suc j) h = padded-at n [] j (le-of-suc-le-suc h)
 padded-at (suc n) (x ∷ xs) zero h = refl
 padded-at (suc n) (x ∷ xs) (suc j) h = padded-at n xs j (le-of-suc-le-suc h)
 
-padded-take : (n : ℕ) (xs : List ℕ) → padded n (take n xs) ≡ padded n xs
-padded-take zero xs = refl
-padded-take (suc n) [] = refl
-padded-take (suc n) (x ∷ xs) = ap (λ (l : List ℕ). x ∷ l) (padded-take n xs)
+-- past the end of zeros all is 0
+pub zeros : (n j : ℕ) → getD {A = ℕ} (replicate n 0) j 0 ≡ 0
+zeros zero j = refl
+zeros (suc n) zero = refl
+zeros (suc n) (suc j) = zeros n j
+
+-- past what is taken all is 0
+take-past : (n : ℕ) (xs : List ℕ) (j : ℕ) → n ≤ j → getD (take n xs) j 0 ≡ 0
+take-past zero xs j h = refl
+take-past (suc n) [] j h = refl
+take-past (suc n) (x ∷ xs) zero h = absurd (omega arith)
+take-past (suc n) (x ∷ xs) (suc j) h = take-past n xs j (le-of-suc-le-suc h)
 
 -- the byte i is stored behind those that are right
 pub one-more : (bytes : List ℕ) (f : ℕ → ℕ) (i v : ℕ) → i < length bytes → v ≡ f i → ((j : ℕ) → j < i → getD bytes j 0 ≡ f j) → (j : ℕ) → j < i + 1 → getD (set bytes i v) j 0 ≡ f j
 one-more bytes f i v u e h = below-more _ _ (λ j w. getD-set-other bytes i j v 0 (λ (q : j ≡ i). omega arith) ∙ h j w) (getD-set-same bytes i v 0 u ∙ e)
 
--- what agrees with the image byte by byte is the image's part
-pub twelve-bytes : (img bytes : List ℕ) (at : ℕ) → length bytes ≡ 12 → ((j : ℕ) → j < 12 → getD bytes j 0 ≡ getD img (at + j) 0) → bytes ≡ padded 12 (take 12 (drop at img))
-twelve-bytes img bytes at e h =
-    ext-getD 0 bytes (padded 12 (drop at img)) (e ∙ sym (padded-length 12 (drop at img)))
-    (λ j u. h j (omega arith) ∙ sym (padded-at 12 (drop at img) j (omega arith) ∙ getD-drop at img j 0))
-    ∙ sym (padded-take 12 (drop at img))
+-- and those behind it stay 0
+pub zeros-behind : (bytes : List ℕ) (i v : ℕ) → ((j : ℕ) → i ≤ j → getD bytes j 0 ≡ 0) → (j : ℕ) → i + 1 ≤ j → getD (set bytes i v) j 0 ≡ 0
+zeros-behind bytes i v z j h = getD-set-other bytes i j v 0 (λ (q : j ≡ i). omega arith) ∙ z j (omega arith)
+
+-- what agrees with the image byte by byte, and is 0 from there on, is the image's part with zeros up to n
+pub part-bytes : (n size : ℕ) (img bytes : List ℕ) (at : ℕ) → size ≤ n → length bytes ≡ n → ((j : ℕ) → j < size → getD bytes j 0 ≡ getD img (at + j) 0)
+    → ((j : ℕ) → size ≤ j → getD bytes j 0 ≡ 0) → bytes ≡ padded n (take size (drop at img))
+part-bytes n size img bytes at s e h z = ext-getD 0 bytes (padded n (take size (drop at img))) (e ∙ sym (padded-length n (take size (drop at img)))) (λ j u. same j u (decLt j size))
+  where
+    same : (j : ℕ) → j < length bytes → Dec (j < size) → getD bytes j 0 ≡ getD (padded n (take size (drop at img))) j 0
+    same j u (yes l) = h j l ∙ sym (padded-at n (take size (drop at img)) j (omega arith) ∙ getD-take size (drop at img) j 0 l ∙ getD-drop at img j 0)
+    same j u (no l) = z j (omega arith) ∙ sym (padded-at n (take size (drop at img)) j (omega arith) ∙ take-past size (drop at img) j (omega arith))
 
 abbrev firsts : (ℕ → ℕ) → ℕ → List ℕ
 firsts f zero = []
@@ -50,3 +67,22 @@ firsts-all (suc n) (x ∷ xs) e = ap (λ (l : List ℕ). x ∷ l) (firsts-all n 
 
 pub eight-nodes : (xs : List ℕ) → length xs ≡ 8 → getD xs 0 0 ∷ getD xs 1 0 ∷ getD xs 2 0 ∷ getD xs 3 0 ∷ getD xs 4 0 ∷ getD xs 5 0 ∷ getD xs 6 0 ∷ getD xs 7 0 ∷ [] ≡ xs
 eight-nodes xs e = firsts-all 8 xs e
+
+pub firsts-padded : (n : ℕ) (xs : List ℕ) → firsts (λ i. getD xs i 0) n ≡ padded n xs
+firsts-padded zero xs = refl
+firsts-padded (suc n) [] = ap (λ (l : List ℕ). 0 ∷ l) (firsts-padded n [])
+firsts-padded (suc n) (x ∷ xs) = ap (λ (l : List ℕ). x ∷ l) (firsts-padded n xs)
+
+-- of what has zeros up to m, those up to n
+padded-twice : (n m : ℕ) (xs : List ℕ) → n ≤ m → padded n (padded m xs) ≡ padded n xs
+padded-twice n m xs l = ext-getD 0 (padded n (padded m xs)) (padded n xs) (e ∙ sym (padded-length n xs)) same
+  where
+    e : length (padded n (padded m xs)) ≡ n
+    e = padded-length n (padded m xs)
+
+    same : (j : ℕ) → j < length (padded n (padded m xs)) → getD (padded n (padded m xs)) j 0 ≡ getD (padded n xs) j 0
+    same j u = let q = e in let h : j < n = omega arith in padded-at n (padded m xs) j h ∙ padded-at m xs j (omega arith) ∙ sym (padded-at n xs j h)
+
+-- the first twelve bytes of a part are what is written of it in HFS
+pub narrowed : (img : List ℕ) (p : Part) → padded 12 (wideBytes img p) ≡ dataBytes img p
+narrowed img p = padded-twice 12 64 (take (p .size) (drop (p .at) img)) (omega arith)

@@ -3,3 +3,4 @@ pub mod Stored
 pub mod Looking
 pub mod Matches
 pub mod Filled
+pub mod Searched

@@ -15,8 +15,9 @@ use Rattle.btree.specs.Tree.{View}
 use Rattle.btree.specs.Header.{viewOf}
 use Rattle.btree.specs.Search.{recordWith}
 use Rattle.btree.proofs.Decisions.{cond-yes, cond-no, said, unsaid}
+use Rattle.frame.specs.declared.form.Form.{Form}
 use Rattle.formats.specs.Format.{view}
-use Rattle.nodes.specs.Whole.{decWholeLeaf}
+use Rattle.order.specs.Whole.{decWholeLeaf}
 use Rattle.search.specs.Seen.{seenIn, seenFrom}
 use Rattle.btree.proofs.Left.{one-more, none-left}
 
@@ -35,25 +36,25 @@ module _ (v : View) (n k c i : ℕ) where
   with-on h e = rw (one-more c i h, add-one i) (cond-yes (Dec·not (ℕ-discrete (v .key n i) k)) _ _ e)
 
 -- a node, by whether it counts
-module _ (img : List ℕ) (k n : ℕ) where
-  pub seen-not : says (decWholeLeaf img n) ≡ false → seenIn img k n ≡ none
+module _ (form : Form) (img : List ℕ) (k n : ℕ) where
+  pub seen-not : says (decWholeLeaf form img n) ≡ false → seenIn form img k n ≡ none
   unfolding seenIn
-  seen-not e = cond-no (decWholeLeaf img n) _ _ (unsaid (decWholeLeaf img n) e)
+  seen-not e = cond-no (decWholeLeaf form img n) _ _ (unsaid (decWholeLeaf form img n) e)
 
-  pub seen-whole : says (decWholeLeaf img n) ≡ true → seenIn img k n ≡ recordWith (view img) n k 0 (view img .count n)
+  pub seen-whole : says (decWholeLeaf form img n) ≡ true → seenIn form img k n ≡ recordWith (view form img) n k 0 (view form img .count n)
   unfolding seenIn viewOf
-  seen-whole e = cond-yes (decWholeLeaf img n) _ _ (said (decWholeLeaf img n) e)
+  seen-whole e = cond-yes (decWholeLeaf form img n) _ _ (said (decWholeLeaf form img n) e)
 
 -- the nodes of an image from n on
-module _ (img : List ℕ) (k total n : ℕ) where
-  pub seen-end : total ≤ n → seenFrom img k n (total - n) ≡ NotSeen
+module _ (form : Form) (img : List ℕ) (k total n : ℕ) where
+  pub seen-end : total ≤ n → seenFrom form img k n (total - n) ≡ NotSeen
   unfolding seenFrom
   seen-end h = rw (none-left total n h)
 
-  pub seen-here : (i : ℕ) → n < total → seenIn img k n ≡ some i → seenFrom img k n (total - n) ≡ Seen (recordPlace (view img) n i)
+  pub seen-here : (i : ℕ) → n < total → seenIn form img k n ≡ some i → seenFrom form img k n (total - n) ≡ Seen (recordPlace (view form img) n i)
   unfolding seenFrom
   seen-here i h e = rw (one-more total n h, e)
 
-  pub seen-on : n < total → seenIn img k n ≡ none → seenFrom img k n (total - n) ≡ seenFrom img k (n + 1) (total - (n + 1))
+  pub seen-on : n < total → seenIn form img k n ≡ none → seenFrom form img k n (total - n) ≡ seenFrom form img k (n + 1) (total - (n + 1))
   unfolding seenFrom
   seen-on h e = rw (one-more total n h, e, add-one n)

@@ -9,23 +9,25 @@ use Rattle.btree.specs.Places.{recordPlace}
 use Rattle.btree.specs.Decide.{cond}
 use Rattle.btree.specs.Header.{countOf}
 use Rattle.btree.specs.Search.{recordWith}
-use Rattle.hfs.specs.Hfs.{hfs}
+use Rattle.frame.specs.declared.form.Form.{Form}
+use Rattle.frame.specs.Form.{layoutOf}
 use Rattle.formats.specs.Format.{view}
-use Rattle.nodes.specs.Whole.{decWholeLeaf}
+use Rattle.order.specs.Whole.{decWholeLeaf}
 
--- the record of the node n that has the key k, if the node counts
-unfoldable pub seenIn : List ℕ → ℕ → ℕ → Option ℕ
-seenIn img k n = cond (decWholeLeaf img n) (recordWith (view img) n k 0 (countOf hfs img n)) none
+module _ (form : Form) (img : List ℕ) where
+  -- the record of the node n that has the key k, if the node counts
+  unfoldable pub seenIn : ℕ → ℕ → Option ℕ
+  seenIn k n = cond (decWholeLeaf form img n) (recordWith (view form img) n k 0 (countOf (layoutOf form) img n)) none
 
--- W-208: "Found and seen give the record's start"
-abbrev pub seenOr : List ℕ → ℕ → Option ℕ → Salvage → Salvage
-seenOr img n none r = r
-seenOr img n (some i) r = Seen (recordPlace (view img) n i)
+  -- W-208: "Found and seen give the record's start"
+  abbrev pub seenOr : ℕ → Option ℕ → Salvage → Salvage
+  seenOr n none r = r
+  seenOr n (some i) r = Seen (recordPlace (view form img) n i)
 
--- the first node from n on, of as many as are left, that counts and has the key k: "The first match is seen"
-unfoldable pub seenFrom : List ℕ → ℕ → ℕ → ℕ → Salvage
-seenFrom img k n zero = NotSeen
-seenFrom img k n (suc left) = seenOr img n (seenIn img k n) (seenFrom img k (suc n) left)
+  -- the first node from n on, of as many as are left, that counts and has the key k: "The first match is seen"
+  unfoldable pub seenFrom : ℕ → ℕ → ℕ → Salvage
+  seenFrom k n zero = NotSeen
+  seenFrom k n (suc left) = seenOr n (seenIn k n) (seenFrom k (suc n) left)
 
 -- "The first match is seen": among matches in any words, record i of the node n comes first
 pub record First (P : ℕ → ℕ → Type 0) (n i : ℕ) : Type 0 where

@@ -3,15 +3,20 @@ ghost use mathlib.Core.Path.{_≡_};
 ghost use Prim.Native.Nat.{_≤_};
 ghost use Rattle.btree.specs.Halving.{before};
 ghost use Rattle.btree.specs.Search.{inLeaf, withKey, descentOf};
+ghost use Rattle.frame.specs.Form.{Fair};
+ghost use Rattle.formats.specs.Key.{rankOf};
 ghost use Rattle.formats.specs.Format.{view};
 ghost use Rattle.search.specs.Descent.{Searchable, stoppedAt};
 use super::halving::halve;
 use btree::Answer;
 use btree::Lookup;
 use btree::Path;
+use formats::key::SortKey;
+use formats::key::is_same;
 use formats::records::child_of;
 use formats::records::key_of;
 use formats::records::record_place;
+use frame::form::Form;
 use image::bytes::be16;
 use image::bytes::be32;
 
@@ -28,23 +33,24 @@ fn absent(nodes: [u32; 8], len: u32, node: u32, compared: u32) -> Lookup
 }
 
 // What a leaf says of the key where halving ends here: the record before the end may have it.
-fn in_leaf(image: &[u8], k: u64, node: u32, end: u32) -> Answer
-    requires { ⌜ end ≤ view (now image) .count node ⌝ }
-    ensures { λ r. ⌜ r ≡ inLeaf (view (now (image .entry))) node (withKey (view (now (image .entry))) k node (before end)) ⌝ }
+fn in_leaf(form: Form, image: &[u8], key: SortKey, node: u32, end: u32) -> Answer
+    requires { ⌜ Fair form × (end ≤ view form (now image) .count node) ⌝ }
+    ensures { λ r. ⌜ r ≡ inLeaf (view form (now (image .entry))) node (withKey (view form (now (image .entry))) (rankOf key) node (before end)) ⌝ }
 {
     if end == 0 {
         return Answer::Absent(node);
     }
-    if key_of(image, node, end - 1) == k {
-        return Answer::Found(record_place(image, node, end - 1));
+    let last = key_of(form, image, node, end - 1);
+    if is_same(last, key) {
+        return Answer::Found(record_place(form, image, node, end - 1));
     }
     Answer::Absent(node)
 }
 
-// From the root down, in each index node by the highest pointer key not above k.
-pub fn descend(image: &[u8], k: u64) -> Lookup
-    requires { ⌜ Searchable (view (now image)) ⌝ }
-    ensures { λ r. ⌜ r ≡ descentOf (view (now (image .entry))) k ⌝ }
+// From the root down, in each index node by the highest pointer key not above the asked one.
+pub fn descend(form: Form, image: &[u8], key: SortKey) -> Lookup
+    requires { ⌜ Searchable form (now image) ⌝ }
+    ensures { λ r. ⌜ r ≡ descentOf (view form (now (image .entry))) (rankOf key) ⌝ }
 {
     let depth = be16(image, 14);
     let mut nodes = [0u32; 8];
@@ -56,18 +62,18 @@ pub fn descend(image: &[u8], k: u64) -> Lookup
     let mut len: u32 = 1;
     let mut compared: u32 = 0;
     while len < depth {
-        let halved = halve(image, node, k);
+        let halved = halve(form, image, node, key);
         compared += halved.compared;
         let end = halved.end;
         if end == 0 {
             return absent(nodes, len, node, compared);
         }
-        node = child_of(image, node, end - 1);
+        node = child_of(form, image, node, end - 1);
         nodes[len as usize] = node;
         len += 1;
     }
-    let halved = halve(image, node, k);
-    let answer = in_leaf(image, k, node, halved.end);
+    let halved = halve(form, image, node, key);
+    let answer = in_leaf(form, image, key, node, halved.end);
     let path = Path { nodes, len };
     Lookup {
         answer,

@@ -1,4 +1,4 @@
-// A row of keys, each looked for in a tree that has been checked.
+// A row of packed keys of HFS, each looked for in a tree that has been checked.
 ghost use mathlib.Core.Path.{_≡_};
 ghost use Prim.Native.Nat.{_≤_};
 ghost use lib.ListN.{length};
@@ -6,7 +6,9 @@ ghost use Rattle.search.specs.Rows.{resultIn, filled, Placeable};
 use super::descent::descend;
 use btree::Answer;
 use formats::key::is_key;
+use formats::key::unpack;
 use formats::records::data_at;
+use frame::form::of_hfs;
 
 fn result_in(image: &[u8], number: u64) -> u32
     requires { ⌜ Placeable (now image) ⌝ }
@@ -15,10 +17,11 @@ fn result_in(image: &[u8], number: u64) -> u32
     if !is_key(number) {
         return 1;
     }
-    let found = descend(image, number);
+    let form = of_hfs();
+    let found = descend(form, image, unpack(number));
     let answer = found.answer;
     match answer {
-        Answer::Found(place) => data_at(place) as u32,
+        Answer::Found(place) => data_at(form, place) as u32,
         Answer::Absent(_) => 0,
         Answer::Refused(_, _) => 1,
     }

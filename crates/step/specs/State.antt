@@ -12,13 +12,14 @@ use Rattle.btree.specs.declared.Verdict.{Verdict}
 use Rattle.btree.specs.Decide.{ifZero}
 use Rattle.btree.specs.Tree.{View}
 use Rattle.btree.specs.Walk.{Entry, firstOr, test}
+use Rattle.frame.specs.declared.form.Form.{Form}
 use Rattle.nodes.specs.Tells.{pick}
-use Rattle.nodes.specs.Bound.{bound}
+use Rattle.order.specs.Bound.{bound}
 use Rattle.step.specs.declared.state.Walk.{Walk}
 
--- a node as the code comes to it
-abbrev pub entry : ℕ → Place → ℕ → ℕ → ℕ → Entry
-entry n from d low high = record { node = n; from = from; level = d; low = bound low; high = bound high }
+-- a node as the code comes to it: the keys that point at it and bound its own are given by their places
+abbrev pub entry : Form → List ℕ → ℕ → Place → ℕ → ℕ → ℕ → Entry
+entry form img n from d low high = record { node = n; from = from; level = d; low = bound form img low; high = bound form img high }
 
 -- the bits of the nodes met, with the header and the map chain, and what goes by value
 pub record State : Type 0 where

@@ -3,7 +3,8 @@ ghost use Rattle.formats.specs.Format.{view};
 ghost use Rattle.step.specs.State.{state, step, entry};
 ghost use Rattle.step.specs.Ready.{Ready, Gives};
 use btree::Place;
-use hfs::node::count_of;
+use frame::form::Form;
+use frame::node::count_of;
 use image::bytes::be32;
 use image::visited::mark;
 use node::is_fresh;
@@ -17,6 +18,7 @@ pub mod state;
 
 // The state with the node kept and its bit set, or with the first fault at it.
 pub fn stepped(
+    form: Form,
     image: &[u8],
     bits: &mut [u8],
     w: Walk,
@@ -24,19 +26,19 @@ pub fn stepped(
     from: Place,
     level: u32,
     below: u32,
-    low: u64,
-    high: u64,
+    low: usize,
+    high: usize,
 ) -> Walk
-    requires { ⌜ Ready (now image) (now bits) level below w ⌝ }
-    ensures { λ r. ⌜ Gives (state (now (bits .exit)) r) (step (view (now (image .entry))) (state (now (bits .entry)) w) (entry node from level low high)) ⌝ }
+    requires { ⌜ Ready form (now image) (now bits) level below low high w ⌝ }
+    ensures { λ r. ⌜ Gives (state (now (bits .exit)) r) (step (view form (now (image .entry))) (state (now (bits .entry)) w) (entry form (now (image .entry)) node from level low high)) ⌝ }
 {
     let fresh = is_fresh(bits, be32(image, 36), node);
     let p = w.last[level as usize];
-    let t = tested(image, fresh, p, node, from, level, low, high);
+    let t = tested(form, image, fresh, p, node, from, level, low, high);
     if t.number != 0 {
         return stopped_at(w, t);
     }
-    let c = count_of(image, node);
+    let c = count_of(form, image, node);
     mark(bits, node);
     kept_at(w, node, level, below == 0, c)
 }

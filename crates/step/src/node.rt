@@ -5,6 +5,7 @@ ghost use Prim.Native.Nat.{_<_};
 ghost use Rattle.btree.specs.Decide.{says};
 ghost use Rattle.btree.specs.Walk.{decLeads, test};
 ghost use Rattle.formats.specs.Format.{view};
+ghost use Rattle.frame.specs.Form.{Fair};
 ghost use Rattle.nodes.specs.Inside.{NodeIn};
 ghost use Rattle.step.specs.State.{freshIn, entry};
 use btree::Hit;
@@ -13,11 +14,12 @@ use btree::Verdict;
 use btree::at_byte;
 use btree::at_node;
 use formats::records::record_place;
-use hfs::node::back_of;
-use hfs::node::forward_of;
+use frame::form::Form;
+use frame::node::back_of;
+use frame::node::forward_of;
 use image::bytes::bit_at;
 use nodes::form::node_right;
-use nodes::order::wrong_key;
+use order::keys::wrong_key;
 
 // Test 4.
 pub fn is_fresh(bits: &[u8], total: u32, node: u32) -> bool
@@ -30,28 +32,30 @@ pub fn is_fresh(bits: &[u8], total: u32, node: u32) -> bool
 }
 
 // Whether the node p, where it is one, has the forward link `node`.
-pub fn leads(image: &[u8], p: u32, node: u32) -> bool
-    ensures { λ r. ⌜ r ≡ says (decLeads (view (now (image .entry))) p node) ⌝ }
+pub fn leads(form: Form, image: &[u8], p: u32, node: u32) -> bool
+    requires { ⌜ Fair form ⌝ }
+    ensures { λ r. ⌜ r ≡ says (decLeads (view form (now (image .entry))) p node) ⌝ }
 {
     if p == 0 {
         return true;
     }
-    forward_of(image, p) == node
+    forward_of(form, image, p) == node
 }
 
 // The tests at a node whose number stands at `from`: 4, 5, 6, 7. Of the walk they need whether the node is fresh, and the node met before it on its level.
 pub fn tested(
+    form: Form,
     image: &[u8],
     fresh: bool,
     p: u32,
     node: u32,
     from: Place,
     level: u32,
-    low: u64,
-    high: u64,
+    low: usize,
+    high: usize,
 ) -> Verdict
-    requires { ⌜ (fresh ≡ true → NodeIn (now image) node) × (level < 8) ⌝ }
-    ensures { λ r. ⌜ r ≡ test (view (now (image .entry))) fresh p (entry node from level low high) ⌝ }
+    requires { ⌜ Fair form × (fresh ≡ true → NodeIn form (now image) node) × (level < 8) × (low < 1000000000000000) × (high < 1000000000000000) ⌝ }
+    ensures { λ r. ⌜ r ≡ test (view form (now (image .entry))) fresh p (entry form (now (image .entry)) node from level low high) ⌝ }
 {
     if !fresh {
         return Verdict {
@@ -59,17 +63,17 @@ pub fn tested(
             place: from,
         };
     }
-    if !node_right(image, node, level) {
+    if !node_right(form, image, node, level) {
         return at_node(5, node);
     }
-    if let Hit::At(i) = wrong_key(image, node, low, high) {
-        let place = record_place(image, node, i);
+    if let Hit::At(i) = wrong_key(form, image, node, low, high) {
+        let place = record_place(form, image, node, i);
         return Verdict { number: 6, place };
     }
-    if back_of(image, node) != p {
+    if back_of(form, image, node) != p {
         return at_byte(7, node, 4);
     }
-    if !leads(image, p, node) {
+    if !leads(form, image, p, node) {
         return at_byte(7, p, 0);
     }
     at_node(0, 0)

@@ -20,19 +20,34 @@ be16 n = n / 256 % 256 ∷ n % 256 ∷ []
 abbrev pub be32 : ℕ → List ℕ
 be32 n = n / 16777216 % 256 ∷ n / 65536 % 256 ∷ n / 256 % 256 ∷ n % 256 ∷ []
 
--- "a header as above" with its depth, root, leaf records, first and last leaf; then its total, and its first map byte. Free is 0.
-abbrev pub header : List ℕ → ℕ → ℕ → List ℕ
-header tree total mapByte =
+-- "a header as above", by node size and key length, with its depth, root, leaf records, first and last leaf; then its total, and its first map byte. Free is 0.
+abbrev pub headerOf : ℕ → ℕ → List ℕ → ℕ → ℕ → List ℕ
+headerOf size keyLength tree total mapByte =
     put 8 (1 ∷ [])
     (put 10 (be16 3)
-    (put 14 (tree ++ be16 512 ++ be16 7 ++ be32 total ++ be32 0)
+    (put 14 (tree ++ be16 size ++ be16 keyLength ++ be32 total ++ be32 0)
     (put 248 (mapByte ∷ [])
-    (put 504 (be16 0x1F8 ++ be16 0xF8 ++ be16 0x78 ++ be16 0xE)
-    (replicate 512 0)))))
+    (put (size - 8) (be16 (size - 8) ++ be16 0xF8 ++ be16 0x78 ++ be16 0xE)
+    (replicate size 0)))))
 
 -- a node with its links, kind, level and count; its records; its last bytes
+abbrev pub nodeOf : ℕ → List ℕ → List ℕ → List ℕ → List ℕ
+nodeOf size start records ends = put 0 start (put 14 records (put (size - length ends) ends (replicate size 0)))
+
+-- those of HFS
+abbrev pub header : List ℕ → ℕ → ℕ → List ℕ
+header = headerOf 512 7
+
 abbrev pub node : List ℕ → List ℕ → List ℕ → List ℕ
-node start records ends = put 0 start (put 14 records (put (512 - length ends) ends (replicate 512 0)))
+node = nodeOf 512
+
+-- the fields of a tree of depth 0
+abbrev pub noTree : List ℕ
+noTree = be16 0 ++ be32 0 ++ be32 0 ++ be32 0 ++ be32 0
+
+-- the fields of a tree that is one leaf, node 1, with one record
+abbrev pub oneLeaf : List ℕ
+oneLeaf = be16 1 ++ be32 1 ++ be32 1 ++ be32 1 ++ be32 1
 
 -- "length 07, fork (00 data, FF resource), file number (4), start block (2)"
 abbrev pub keyBytes : ℕ → ℕ → ℕ → List ℕ
@@ -44,7 +59,7 @@ onePair first count = be16 first ++ be16 count ++ be32 0 ++ be32 0
 
 -- "one node, a header as above with depth 0, total 1, free 0, first map byte 80, every byte not named zero"
 abbrev pub E1 : List ℕ
-E1 = header (be16 0 ++ be32 0 ++ be32 0 ++ be32 0 ++ be32 0) 1 0x80
+E1 = header noTree 1 0x80
 
 -- "Each map node has back link 0, kind 02, level 0, one record, and ends in 01FC 000E", with its link
 abbrev pub mapNode : ℕ → List ℕ
@@ -52,7 +67,7 @@ mapNode link = node (be32 link ++ be32 0 ++ 0x02 ∷ 0 ∷ be16 1) [] (be16 0x1F
 
 -- E1's header with a link, the total, and the first map byte
 abbrev pub linkedHeader : ℕ → ℕ → ℕ → List ℕ
-linkedHeader link total mapByte = put 0 (be32 link) (header (be16 0 ++ be32 0 ++ be32 0 ++ be32 0 ++ be32 0) total mapByte)
+linkedHeader link total mapByte = put 0 (be32 link) (header noTree total mapByte)
 
 -- a header and a map node
 abbrev pub E2 : List ℕ
@@ -64,7 +79,7 @@ onlyLeaf = node (be32 0 ++ be32 0 ++ 0xFF ∷ 1 ∷ be16 1) (keyBytes 0x10 0x00 
 
 -- "header with depth, root, leaf records, first and last leaf 1, total 2, free 0, map byte C0. Node 1:" that leaf
 abbrev pub L1 : List ℕ
-L1 = header (be16 1 ++ be32 1 ++ be32 1 ++ be32 1 ++ be32 1) 2 0xC0 ++ onlyLeaf
+L1 = header oneLeaf 2 0xC0 ++ onlyLeaf
 
 -- Two levels: the root, node 1, points at the leaves 2 and 3, which have one record and two. The root's two keys and the level bytes of the three
 -- nodes are given.

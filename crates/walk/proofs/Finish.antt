@@ -14,6 +14,7 @@ use Rattle.map.specs.Frame.{Marks}
 use Rattle.map.proofs.Marks.{marks-same}
 use Rattle.btree.proofs.Reached.{tree-size, entry-reached, reached-entry}
 use Rattle.step.specs.declared.state.Walk.{Walk}
+use Rattle.frame.specs.declared.form.Form.{Form}
 use Rattle.formats.specs.Format.{view}
 use Rattle.step.specs.State.{State, state, stopped}
 use Rattle.walk.proofs.Agree.{met, Agrees, onto}
@@ -80,14 +81,14 @@ begun v bits w long marks nodes last records first number =
       number = number;
     }
 
-module _ (img bits : List ℕ) (x : Walk) where
+module _ (form : Form) (img bits : List ℕ) (x : Walk) where
   -- a walk that ended, with what the tests at its end found
-  pub ended : (t : Verdict) → Agrees (view img) (state bits x) (onto (treeEntries (view img) (view img .depth)) []) → t ≡ walk (view img) → Ends img bits (stopped x t)
+  pub ended : (t : Verdict) → Agrees (view form img) (state bits x) (onto (treeEntries (view form img) (view form img .depth)) []) → t ≡ walk (view form img) → Ends form img bits (stopped x t)
   unfolding stopped
-  ended t a e = record { verdict = e; marks = λ z. marks-reached (view img) _ (a .marks); count = λ z. a .nodes ∙ size-reached (view img) }
+  ended t a e = record { verdict = e; marks = λ z. marks-reached (view form img) _ (a .marks); count = λ z. a .nodes ∙ size-reached (view form img) }
 
   -- a walk that met a fault
-  pub faulted : (x .number ≡ 0 → ⊥) → fails (x .number) (x .place) ≡ walk (view img) → Ends img bits x
+  pub faulted : (x .number ≡ 0 → ⊥) → fails (x .number) (x .place) ≡ walk (view form img) → Ends form img bits x
   faulted n e = record { verdict = e; marks = λ z. absurd (n z); count = λ z. absurd (n z) }
 
 -- a tree of no levels has no entries

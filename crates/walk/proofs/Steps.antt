@@ -13,7 +13,9 @@ use Rattle.btree.specs.Walk.{Entry, entries}
 use Rattle.btree.proofs.Left.{one-more, none-left}
 use Rattle.btree.proofs.Entries.{kid}
 use Rattle.walk.specs.declared.visit.Pointer.{Pointer}
-use Rattle.nodes.specs.Bound.{bound}
+use Rattle.frame.specs.declared.form.Form.{Form}
+use Rattle.formats.specs.Format.{view}
+use Rattle.order.specs.Bound.{bound}
 use Rattle.step.specs.State.{State, step}
 use Rattle.step.proofs.Lands.{step-stuck}
 use Rattle.walk.specs.Visit.{steps, Points}
@@ -44,10 +46,11 @@ module _ (v : View) where
   unfolding steps
   kids-end f s c i h = rw (none-left c i h)
 
-  pub kids-on : (h d n high : ℕ) (s r : State) (c i : ℕ) (p : Pointer) → i < c → Points v n i high p
-      → r ≡ steps v s (entries v h (d + 1) (p .from) (bound (p .low)) (bound (p .high)) (p .child))
-      → steps v s (span i (c - i) (kid v h d (bound high) n)) ≡ steps v r (span (i + 1) (c - (i + 1)) (kid v h d (bound high) n))
+module _ (form : Form) (img : List ℕ) where
+  pub kids-on : (h d n high : ℕ) (s r : State) (c i : ℕ) (p : Pointer) → i < c → Points form img n i high p
+      → r ≡ steps (view form img) s (entries (view form img) h (d + 1) (p .from) (bound form img (p .low)) (bound form img (p .high)) (p .child))
+      → steps (view form img) s (span i (c - i) (kid (view form img) h d (bound form img high) n)) ≡ steps (view form img) r (span (i + 1) (c - (i + 1)) (kid (view form img) h d (bound form img high) n))
   kids-on h d n high s r c i p l q e =
-      ap (λ (k : ℕ). steps v s (span i k (kid v h d (bound high) n))) (one-more c i l)
-      ∙ steps-append s (kid v h d (bound high) n i) (span (suc i) (c - (i + 1)) (kid v h d (bound high) n))
+      ap (λ (k : ℕ). steps (view form img) s (span i k (kid (view form img) h d (bound form img high) n))) (one-more c i l)
+      ∙ steps-append (view form img) s (kid (view form img) h d (bound form img high) n i) (span (suc i) (c - (i + 1)) (kid (view form img) h d (bound form img high) n))
       ∙ rw (e, q .child, q .from, q .low, q .under, add-one d, add-one i)

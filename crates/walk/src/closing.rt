@@ -3,11 +3,14 @@ ghost use mathlib.Core.Path.{_≡_};
 ghost use Prim.Native.Nat.{_≤_, pred};
 ghost use Rattle.btree.specs.Decide.{says};
 ghost use Rattle.btree.specs.Walk.{decTotals, closing};
+ghost use Rattle.frame.specs.declared.form.Form.{Form};
+ghost use Rattle.frame.specs.Form.{Fair};
 ghost use Rattle.formats.specs.Format.{view};
 ghost use Rattle.step.specs.State.{lastAt};
 use btree::Verdict;
 use btree::at_byte;
 use btree::at_node;
+use frame::form::Form;
 use image::bytes::be16;
 use image::bytes::be32;
 use step::node::leads;
@@ -16,7 +19,7 @@ use step::state::last_on;
 
 // Test 8.
 fn totals_right(image: &[u8], first: u32, last: u32, records: u32) -> bool
-    ensures { λ r. ⌜ r ≡ says (decTotals (view (now (image .entry))) first last records) ⌝ }
+    ensures { λ r. ⌜ ((form : Form) → r ≡ says (decTotals (view form (now (image .entry))) first last records)) ⌝ }
 {
     if be32(image, 24) != first {
         return false;
@@ -39,15 +42,15 @@ fn last_leaf(w: Walk, depth: u32) -> u32
 }
 
 // The last node's forward link of each level from the root down; then test 8.
-pub fn closing_tests(image: &[u8], w: Walk) -> Verdict
-    requires { ⌜ view (now image) .depth ≤ 8 ⌝ }
-    ensures { λ r. ⌜ r ≡ closing (view (now (image .entry))) (lastAt w) (w .first) (w .records) ⌝ }
+pub fn closing_tests(form: Form, image: &[u8], w: Walk) -> Verdict
+    requires { ⌜ Fair form × (view form (now image) .depth ≤ 8) ⌝ }
+    ensures { λ r. ⌜ r ≡ closing (view form (now (image .entry))) (lastAt w) (w .first) (w .records) ⌝ }
 {
     let depth = be16(image, 14);
     let mut d: u32 = 0;
     while d < depth {
         let p = last_on(w, d);
-        if !leads(image, p, 0) {
+        if !leads(form, image, p, 0) {
             return at_byte(7, p, 0);
         }
         d += 1;

@@ -2,6 +2,7 @@
 ghost use Rattle.walk.specs.Outcome.{Begins, Ends};
 use btree::Place;
 use closing::closing_tests;
+use frame::form::Form;
 use image::bytes::be16;
 use image::bytes::be32;
 use step::state::Walk;
@@ -12,9 +13,9 @@ pub mod closing;
 pub mod visit;
 
 // Tests 4 to 8, where the bits set are those of the header and the map chain, and they are so many.
-pub fn tree_tests(image: &[u8], bits: &mut [u8], nodes: u32) -> Walk
-    requires { ⌜ Begins (now image) (now bits) nodes ⌝ }
-    ensures { λ r. ⌜ Ends (now (image .entry)) (now (bits .exit)) r ⌝ }
+pub fn tree_tests(form: Form, image: &[u8], bits: &mut [u8], nodes: u32) -> Walk
+    requires { ⌜ Begins form (now image) (now bits) nodes ⌝ }
+    ensures { λ r. ⌜ Ends form (now (image .entry)) (now (bits .exit)) r ⌝ }
 {
     let w = Walk {
         last: [0; 8],
@@ -26,20 +27,19 @@ pub fn tree_tests(image: &[u8], bits: &mut [u8], nodes: u32) -> Walk
     };
     let depth = be16(image, 14);
     if depth == 0 {
-        let t = closing_tests(image, w);
+        let t = closing_tests(form, image, w);
         return stopped_at(w, t);
     }
     let root = be32(image, 16);
-    // No key points at the root, and none bounds it.
-    let none: u64 = 72_057_594_037_927_936;
     let root_field = Place {
         node: 0,
         offset: 16,
     };
-    let x = visit(image, bits, w, root, root_field, 0, depth - 1, none, none);
+    // No key points at the root, and none bounds it.
+    let x = visit(form, image, bits, w, root, root_field, 0, depth - 1, 0, 0);
     if x.number != 0 {
         return x;
     }
-    let t = closing_tests(image, x);
+    let t = closing_tests(form, image, x);
     stopped_at(x, t)
 }

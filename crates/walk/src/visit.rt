@@ -2,35 +2,39 @@
 ghost use mathlib.Core.Path.{_≡_};
 ghost use Prim.Native.Nat.{_<_};
 ghost use Rattle.btree.specs.Walk.{entries};
-ghost use Rattle.nodes.specs.Bound.{bound};
+ghost use Rattle.order.specs.Bound.{bound};
+ghost use Rattle.frame.specs.Form.{Fair};
 ghost use Rattle.formats.specs.Format.{view};
 ghost use Rattle.step.specs.State.{state};
 ghost use Rattle.step.specs.Ready.{Ready, Gives};
 ghost use Rattle.walk.specs.Visit.{steps, Points};
 use btree::Place;
-use formats::records::child_of;
 use formats::records::child_place;
-use formats::records::key_of;
-use hfs::node::count_of;
+use formats::records::key_size;
+use formats::records::record_at;
+use formats::records::record_step;
+use frame::form::Form;
+use frame::node::count_of;
+use image::bytes::be32;
 use step::state::Walk;
 use step::stepped;
 
-// A record of an index node: the child and where its number stands, the key that points at it, and the bound of the keys there.
+// A record of an index node: the child and where its number stands, and where the key stands that points at it and the one that bounds the keys there.
 pub struct Pointer {
     pub child: u32,
     pub from: Place,
-    pub low: u64,
-    pub high: u64,
+    pub low: usize,
+    pub high: usize,
 }
 
 // Record i of c.
-fn pointer_at(image: &[u8], node: u32, i: u32, c: u32, high: u64) -> Pointer
-    requires { ⌜ (i < c) × (c ≡ view (now image) .count node) ⌝ }
-    ensures { λ r. ⌜ Points (view (now (image .entry))) node i high r ⌝ }
+fn pointer_at(form: Form, image: &[u8], node: u32, i: u32, c: u32, high: usize) -> Pointer
+    requires { ⌜ Fair form × (i < c) × (c ≡ view form (now image) .count node) × (high < 1000000000000000) ⌝ }
+    ensures { λ r. ⌜ Points form (now (image .entry)) node i high r ⌝ }
 {
-    let child = child_of(image, node, i);
-    let from = child_place(image, node, i);
-    let low = key_of(image, node, i);
+    let from = child_place(form, image, node, i);
+    let low = record_at(form, image, node, i);
+    let child = be32(image, low + (key_size(form) as usize));
     if i + 1 >= c {
         return Pointer {
             child,
@@ -39,7 +43,7 @@ fn pointer_at(image: &[u8], node: u32, i: u32, c: u32, high: u64) -> Pointer
             high,
         };
     }
-    let next = key_of(image, node, i + 1);
+    let next = low + record_step(form, image, node);
     Pointer {
         child,
         from,
@@ -50,6 +54,7 @@ fn pointer_at(image: &[u8], node: u32, i: u32, c: u32, high: u64) -> Pointer
 
 // The node whose number stands at `from`: each node before its children, children left to right; the levels still below the node fall.
 pub fn visit(
+    form: Form,
     image: &[u8],
     bits: &mut [u8],
     w: Walk,
@@ -57,25 +62,26 @@ pub fn visit(
     from: Place,
     level: u32,
     below: u32,
-    low: u64,
-    high: u64,
+    low: usize,
+    high: usize,
 ) -> Walk
-    requires { ⌜ Ready (now image) (now bits) level below w ⌝ }
-    ensures { λ r. ⌜ Gives (state (now (bits .exit)) r) (steps (view (now (image .entry))) (state (now (bits .entry)) w) (entries (view (now (image .entry))) below level from (bound low) (bound high) node)) ⌝ }
+    requires { ⌜ Ready form (now image) (now bits) level below low high w ⌝ }
+    ensures { λ r. ⌜ Gives (state (now (bits .exit)) r) (steps (view form (now (image .entry))) (state (now (bits .entry)) w) (entries (view form (now (image .entry))) below level from (bound form (now (image .entry)) low) (bound form (now (image .entry)) high) node)) ⌝ }
 {
-    let mut x = stepped(image, bits, w, node, from, level, below, low, high);
+    let mut x = stepped(form, image, bits, w, node, from, level, below, low, high);
     if below == 0 {
         return x;
     }
-    let c = count_of(image, node);
+    let c = count_of(form, image, node);
     let mut i: u32 = 0;
     while i < c {
         if x.number != 0 {
             return x;
         }
-        let p = pointer_at(image, node, i, c, high);
+        let p = pointer_at(form, image, node, i, c, high);
         let from = p.from;
         x = visit(
+            form,
             image,
             bits,
             x,

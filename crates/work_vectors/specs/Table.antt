@@ -8,10 +8,10 @@ use Rattle.btree.specs.Places.{byteOf}
 use Rattle.btree.specs.Walk.{fails}
 use Rattle.btree.specs.Numbers.{lookupReply}
 use Rattle.btree.specs.Work.{workLeft}
-use Rattle.hfs.specs.Hfs.{hfs}
+use Rattle.frame.specs.Form.{hfs, layoutOf}
 use Rattle.formats.specs.declared.key.Key.{Key}
 use Rattle.formats.specs.Key.{asked}
-use Rattle.formats.specs.Format.{format}
+use Rattle.formats.specs.Format.{formatOf}
 use Rattle.extents.specs.Reader.{checked, lookedUp}
 use Rattle.vectors.specs.Build.{put, be32, header, E1, E2, L1, twoLeaves}
 
@@ -36,7 +36,7 @@ Answers img lent (check n node offset) = checked img lent ≡ fails n (byteOf no
 Answers img lent (look k n) = lookupReply (lookedUp img k lent .answer) .number ≡ n
 
 abbrev pub Right : Case → Type 0
-Right c = Answers (c .image) (length (c .before)) (c .call) × (workLeft hfs (c .image) format (number (c .call)) (c .before) ≡ c .after)
+Right c = Answers (c .image) (length (c .before)) (c .call) × (workLeft (layoutOf hfs) (c .image) (formatOf hfs) (number (c .call)) (c .before) ≡ c .after)
 
 abbrev of : List ℕ → Call → List ℕ → List ℕ → Case
 of img call before after = record { image = img; call = call; before = before; after = after }

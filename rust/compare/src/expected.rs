@@ -1,15 +1,18 @@
 //! What the reference says, in the words of the proved reader.
 
-use hfs_btree::{Answer, Lookup, Place, Salvage, SalvageAnswer, Verdict};
+use crate::form::Form;
+use hfs_btree::editions::{Answer, Data, Lookup, Place, Salvage, SalvageAnswer, Verdict};
 use images::Key;
 use std::ops::Range;
 
-pub fn check(image: &[u8], work: &mut [u8]) -> Verdict {
-    verdict(reference::check(image, work))
+pub fn check(form: Form, image: &[u8], work: &mut [u8]) -> Verdict {
+    verdict(reference::editions::check(form.edition, form.node_size, image, work))
 }
 
-pub fn lookup(image: &[u8], key: Key, work: &mut [u8]) -> Lookup {
-    let said = reference::lookup(image, key.file, key.fork, key.start, work);
+pub fn lookup(form: Form, image: &[u8], key: Key, work: &mut [u8]) -> Lookup {
+    let Form { edition, node_size } = form;
+    let Key { file, fork, start } = key;
+    let said = reference::editions::lookup(edition, node_size, image, file, fork, start, work);
     let answer = match said.answer {
         reference::Answer::Found { place: said } => Answer::Found { place: place(said) },
         reference::Answer::Absent { node } => Answer::Absent { node },
@@ -33,8 +36,10 @@ pub fn lookup_many(
     (verdict(said), results)
 }
 
-pub fn salvage(image: &[u8], key: Key) -> Salvage {
-    let said = reference::salvage(image, key.file, key.fork, key.start);
+pub fn salvage(form: Form, image: &[u8], key: Key) -> Salvage {
+    let Form { edition, node_size } = form;
+    let Key { file, fork, start } = key;
+    let said = reference::editions::salvage(edition, node_size, image, file, fork, start);
     let answer = match said.answer {
         reference::SalvageAnswer::Seen { place: said } => {
             SalvageAnswer::Seen { place: place(said) }
@@ -58,9 +63,13 @@ fn place(said: reference::Place) -> Place {
 }
 
 /// The proved reader copies the data where the reference says where they are.
-fn data(image: &[u8], range: Option<Range<usize>>) -> [u8; 12] {
-    match range {
-        Some(range) => image[range].try_into().expect("data are 12 bytes"),
-        None => [0; 12],
+fn data(image: &[u8], range: Option<Range<usize>>) -> Data {
+    let Some(range) = range else {
+        return Data::NONE;
+    };
+    let bytes = &image[range];
+    match <[u8; 12]>::try_from(bytes) {
+        Ok(of_hfs) => Data::from(of_hfs),
+        Err(_) => Data::from(<[u8; 64]>::try_from(bytes).expect("data are 12 bytes or 64")),
     }
 }

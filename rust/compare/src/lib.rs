@@ -3,10 +3,15 @@
 mod comparison;
 mod expected;
 pub mod families;
+mod form;
+mod hfs_calls;
 mod keys;
 mod lent;
+mod question;
 mod seed;
+mod tally;
 
-pub use comparison::{Comparison, Tally};
+pub use comparison::Comparison;
 pub use keys::packed;
 pub use seed::seed;
+pub use tally::Tally;

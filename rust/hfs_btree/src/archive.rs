@@ -33,6 +33,39 @@ extern "C" {
         out: *mut [u32; 3],
         data: *mut [u8; 12],
     );
+    fn hfs_extents_check(
+        edition: u32,
+        node_size: u32,
+        image: *const u8,
+        len: usize,
+        work: *mut u8,
+        work_len: usize,
+        out: *mut [u32; 3],
+    );
+    fn hfs_extents_lookup(
+        edition: u32,
+        node_size: u32,
+        image: *const u8,
+        len: usize,
+        file: u32,
+        fork: u8,
+        start: u32,
+        work: *mut u8,
+        work_len: usize,
+        out: *mut [u32; 13],
+        data: *mut [u8; 64],
+    );
+    fn hfs_extents_salvage(
+        edition: u32,
+        node_size: u32,
+        image: *const u8,
+        len: usize,
+        file: u32,
+        fork: u8,
+        start: u32,
+        out: *mut [u32; 3],
+        data: *mut [u8; 64],
+    );
 }
 
 // What a call does not write would show as a number that no answer has.
@@ -86,5 +119,56 @@ pub fn salvage(image: &[u8], file: u32, fork: u8, start: u16) -> ([u32; 3], [u8;
     let (bytes, len) = (image.as_ptr(), image.len());
     // SAFETY: the image is a live slice and only read, and `out` and `data` are arrays of their own.
     unsafe { hfs_salvage(bytes, len, file, fork, start, &mut out, &mut data) };
+    (out, data)
+}
+
+pub fn extents_check(edition: u32, node_size: u32, image: &[u8], work: &mut [u8]) -> [u32; 3] {
+    let mut out = [UNWRITTEN; 3];
+    let (bytes, len) = (image.as_ptr(), image.len());
+    let (lent, lent_len) = (work.as_mut_ptr(), work.len());
+    // SAFETY: the image is a live slice and only read, `work` is a live slice lent to write, and `out`
+    // is an array of its own.
+    unsafe { hfs_extents_check(edition, node_size, bytes, len, lent, lent_len, &mut out) };
+    out
+}
+
+pub fn extents_lookup(
+    edition: u32,
+    node_size: u32,
+    image: &[u8],
+    file: u32,
+    fork: u8,
+    start: u32,
+    work: &mut [u8],
+) -> ([u32; 13], [u8; 64]) {
+    let mut out = [UNWRITTEN; 13];
+    let mut data = [UNWRITTEN_BYTE; 64];
+    let (bytes, len) = (image.as_ptr(), image.len());
+    let (lent, lent_len) = (work.as_mut_ptr(), work.len());
+    // SAFETY: the image is a live slice and only read, `work` is a live slice lent to write, and `out`
+    // and `data` are arrays of their own.
+    unsafe {
+        hfs_extents_lookup(
+            edition, node_size, bytes, len, file, fork, start, lent, lent_len, &mut out, &mut data,
+        )
+    };
+    (out, data)
+}
+
+pub fn extents_salvage(
+    edition: u32,
+    node_size: u32,
+    image: &[u8],
+    file: u32,
+    fork: u8,
+    start: u32,
+) -> ([u32; 3], [u8; 64]) {
+    let mut out = [UNWRITTEN; 3];
+    let mut data = [UNWRITTEN_BYTE; 64];
+    let (bytes, len) = (image.as_ptr(), image.len());
+    // SAFETY: the image is a live slice and only read, and `out` and `data` are arrays of their own.
+    unsafe {
+        hfs_extents_salvage(edition, node_size, bytes, len, file, fork, start, &mut out, &mut data)
+    };
     (out, data)
 }

@@ -1,10 +1,13 @@
-//! The proved reader of HFS extents overflow files, as safe functions on any bytes.
+//! The proved reader of extents overflow files, of HFS and HFS Plus, as safe functions on any bytes.
 //!
 //! An image need not have been checked before: `lookup` and `lookup_many` check it whole, and `salvage`
 //! trusts no node. `check` and the lookups work in bytes that the caller lends, one bit for each node
 //! of the image; [`needed_work`] says how many that is.
+//!
+//! The functions here read HFS; those in [`editions`] read HFS and HFS Plus.
 
 mod archive;
+pub mod editions;
 
 /// How many working bytes a check of an image of this length, or a lookup in it, needs.
 pub const fn needed_work(image_len: usize) -> usize {
@@ -49,15 +52,15 @@ pub enum Answer {
 
 /// The answer to a lookup, with its search path and the record's data.
 #[derive(Clone, Copy, Debug, PartialEq, Eq)]
-pub struct Lookup {
+pub struct Lookup<Data = [u8; 12]> {
     pub answer: Answer,
     /// How many keys were compared by halving, in all nodes of the path; 0 if refused.
     pub compared: u32,
     /// Nodes read from the root down; unused places are 0.
     pub path: [u32; 8],
     pub path_len: u32,
-    /// The data of a found record, else zeros.
-    pub data: [u8; 12],
+    /// The data of a found record, else zeros; in [`editions`], else none.
+    pub data: Data,
 }
 
 /// What a result of [`lookup_many`] says of its key.
@@ -98,10 +101,10 @@ pub enum SalvageAnswer {
 
 /// The answer to a salvage, with the record's data.
 #[derive(Clone, Copy, Debug, PartialEq, Eq)]
-pub struct Salvage {
+pub struct Salvage<Data = [u8; 12]> {
     pub answer: SalvageAnswer,
-    /// The data of a seen record, else zeros.
-    pub data: [u8; 12],
+    /// The data of a seen record, else zeros; in [`editions`], else none.
+    pub data: Data,
 }
 
 const FOUND: u32 = 0;
@@ -115,8 +118,7 @@ const NOT_SEEN: u32 = 14;
 /// another fault the needed bytes are zero. Of a sound image they have the bits of the nodes in use
 /// set and no others, the top bit of a byte first. Bytes beyond the needed ones stay.
 pub fn check(image: &[u8], work: &mut [u8]) -> Verdict {
-    let [number, node, offset] = archive::check(image, work);
-    Verdict { number, place: Place { node, offset } }
+    verdict(archive::check(image, work))
 }
 
 /// What stands under a key of a sound image?
@@ -125,6 +127,33 @@ pub fn check(image: &[u8], work: &mut [u8]) -> Verdict {
 /// refused.
 pub fn lookup(image: &[u8], file: u32, fork: u8, start: u16, work: &mut [u8]) -> Lookup {
     let (out, data) = archive::lookup(image, file, fork, start, work);
+    looked_up(out, data)
+}
+
+/// What stands under each of many keys of a sound image, by their [`packed`] numbers?
+///
+/// The image is checked once: `work` is lent to that check. If the number answered is 0, there is a
+/// result for each key, and `KeyResult::from` says what it says; results beyond the keys stay. With
+/// any other number no result is written. It is 15 if there are fewer results than keys, which is
+/// tested first and leaves `work` as it was, and else the check's own.
+pub fn lookup_many(image: &[u8], keys: &[u64], results: &mut [u32], work: &mut [u8]) -> Verdict {
+    verdict(archive::lookup_many(image, keys, results, work))
+}
+
+/// What can be seen under a key, in an image of any state? Seen proves nothing: a freed node may
+/// hold an old record.
+pub fn salvage(image: &[u8], file: u32, fork: u8, start: u16) -> Salvage {
+    let (out, data) = archive::salvage(image, file, fork, start);
+    salvaged(out, data)
+}
+
+/// What the numbers of a check or of a call for many keys say.
+fn verdict([number, node, offset]: [u32; 3]) -> Verdict {
+    Verdict { number, place: Place { node, offset } }
+}
+
+/// What the numbers of a lookup say.
+fn looked_up<Data>(out: [u32; 13], data: Data) -> Lookup<Data> {
     let [number, node, offset, compared, path_len, path @ ..] = out;
     let place = Place { node, offset };
     let answer = match number {
@@ -135,21 +164,8 @@ pub fn lookup(image: &[u8], file: u32, fork: u8, start: u16, work: &mut [u8]) ->
     Lookup { answer, compared, path, path_len, data }
 }
 
-/// What stands under each of many keys of a sound image, by their [`packed`] numbers?
-///
-/// The image is checked once: `work` is lent to that check. If the number answered is 0, there is a
-/// result for each key, and `KeyResult::from` says what it says; results beyond the keys stay. With
-/// any other number no result is written. It is 15 if there are fewer results than keys, which is
-/// tested first and leaves `work` as it was, and else the check's own.
-pub fn lookup_many(image: &[u8], keys: &[u64], results: &mut [u32], work: &mut [u8]) -> Verdict {
-    let [number, node, offset] = archive::lookup_many(image, keys, results, work);
-    Verdict { number, place: Place { node, offset } }
-}
-
-/// What can be seen under a key, in an image of any state? Seen proves nothing: a freed node may
-/// hold an old record.
-pub fn salvage(image: &[u8], file: u32, fork: u8, start: u16) -> Salvage {
-    let ([number, node, offset], data) = archive::salvage(image, file, fork, start);
+/// What the numbers of a salvage say.
+fn salvaged<Data>([number, node, offset]: [u32; 3], data: Data) -> Salvage<Data> {
     let place = Place { node, offset };
     let answer = match number {
         SEEN => SalvageAnswer::Seen { place },

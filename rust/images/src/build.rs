@@ -1,5 +1,6 @@
 //! Turns a plan into a sound image, with an account of what stands where.
 
+use crate::format::Format;
 use crate::garbage::old_node;
 use crate::key::Key;
 use crate::node::*;
@@ -11,6 +12,7 @@ use std::ops::Range;
 
 /// A sound image and what it holds.
 pub struct Built {
+    pub format: Format,
     pub image: Vec<u8>,
     /// Map nodes in the order of the chain.
     pub map_chain: Vec<u32>,
@@ -33,7 +35,7 @@ pub struct Level {
 
 impl Built {
     pub fn total(&self) -> u32 {
-        (self.image.len() / NODE_SIZE) as u32
+        (self.image.len() / self.format.node_size) as u32
     }
 
     pub fn depth(&self) -> usize {
@@ -50,13 +52,13 @@ impl Built {
 pub fn build(plan: &Plan) -> Built {
     assert!(plan.total_nodes() <= MOST_NODES, "too many nodes planned");
     let mut rng = Rng::new(plan.seed);
-    let mut groups = share_nodes(&mut rng, &plan.level_sizes);
+    let mut groups = share_nodes(&mut rng, plan);
     let record_groups = share_records(&mut rng, plan);
     let record_count = record_groups.last().map_or(0, |group| group.end);
     if !plan.level_sizes.is_empty() {
         groups.push(record_groups);
     }
-    let records = make_records(&mut rng, record_count);
+    let records = make_records(&mut rng, plan.format, record_count);
     let shape = add_pointers(groups, &records);
     let numbering = number_nodes(&mut rng, plan);
     let Numbering { map_chain, levels, free } = numbering;
@@ -65,8 +67,9 @@ pub fn build(plan: &Plan) -> Built {
         .zip(shape)
         .map(|(numbers, level)| Level { numbers, groups: level.groups, pointers: level.pointers })
         .collect();
-    let mut built =
-        Built { image: vec![0; plan.total_nodes() * NODE_SIZE], map_chain, levels, records, free };
+    let format = plan.format;
+    let image = vec![0; plan.total_nodes() * format.node_size];
+    let mut built = Built { format, image, map_chain, levels, records, free };
     write_image(&mut rng, plan, &mut built);
     built
 }
@@ -74,9 +77,7 @@ pub fn build(plan: &Plan) -> Built {
 fn write_image(rng: &mut Rng, plan: &Plan, built: &mut Built) {
     write_header_node(rng, plan, built);
     for (index, &number) in built.map_chain.iter().enumerate() {
-        let mut node = [0; NODE_SIZE];
-        let next = built.map_chain.get(index + 1).copied().unwrap_or(0);
-        write_map(&mut node, next);
+        let node = map_node(rng, plan, built.map_chain.get(index + 1).copied());
         put_node(&mut built.image, number, &node);
     }
     for level in 0..built.levels.len() {
@@ -87,7 +88,7 @@ fn write_image(rng: &mut Rng, plan: &Plan, built: &mut Built) {
     }
     if plan.old_garbage {
         for &number in &built.free {
-            let node = old_node(rng, &built.records);
+            let node = old_node(rng, built.format, &built.records);
             put_node(&mut built.image, number, &node);
         }
     }
@@ -109,12 +110,23 @@ fn write_header_node(rng: &mut Rng, plan: &Plan, built: &mut Built) {
     };
     let mut node = blank(rng, plan);
     // The map record is no place for noise: every one of its bits is judged.
-    node[HEADER_MAP_AT..HEADER_MAP_AT + HEADER_BITS / 8].fill(0);
-    write_header(&mut node, &fields);
+    node[built.format.header_map()].fill(0);
+    write_header(built.format, &mut node, &fields);
     put_node(&mut built.image, 0, &node);
 }
 
-fn tree_node(mut node: Node, built: &Built, level: usize, position: usize) -> Node {
+fn map_node(rng: &mut Rng, plan: &Plan, next: Option<u32>) -> Vec<u8> {
+    let mut node = vec![0; plan.format.node_size];
+    if plan.noise {
+        // Between the record and the offset words; in HFS they meet.
+        let free = plan.format.node_map().end..plan.format.node_size - 4;
+        rng.fill(&mut node[free]);
+    }
+    write_map(plan.format, &mut node, next.unwrap_or(0));
+    node
+}
+
+fn tree_node(mut node: Vec<u8>, built: &Built, level: usize, position: usize) -> Vec<u8> {
     let this = &built.levels[level];
     let descriptor = Descriptor {
         forward: this.numbers.get(position + 1).copied().unwrap_or(0),
@@ -123,12 +135,12 @@ fn tree_node(mut node: Node, built: &Built, level: usize, position: usize) -> No
     };
     let group = this.groups[position].clone();
     match built.levels.get(level + 1) {
-        None => write_leaf(&mut node, descriptor, &built.records[group]),
+        None => write_leaf(built.format, &mut node, descriptor, &built.records[group]),
         Some(below) => {
             let pointers: Vec<Pointer> = group
                 .map(|child| Pointer { key: below.pointers[child], child: below.numbers[child] })
                 .collect();
-            write_index(&mut node, descriptor, &pointers);
+            write_index(built.format, &mut node, descriptor, &pointers);
         }
     }
     node
@@ -138,13 +150,13 @@ fn write_map_bits(built: &mut Built) {
     let tree = built.levels.iter().flat_map(|level| &level.numbers);
     let used = built.map_chain.iter().chain(tree).chain([&0]);
     for &number in used {
-        let at = map_byte_at(&built.map_chain, number as usize);
+        let at = map_byte_at(built.format, &built.map_chain, number as usize);
         built.image[at] |= 0x80 >> (number % 8);
     }
 }
 
-fn blank(rng: &mut Rng, plan: &Plan) -> Node {
-    let mut node = [0; NODE_SIZE];
+fn blank(rng: &mut Rng, plan: &Plan) -> Vec<u8> {
+    let mut node = vec![0; plan.format.node_size];
     if plan.noise {
         rng.fill(&mut node);
     }

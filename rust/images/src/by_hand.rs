@@ -1,5 +1,6 @@
 //! A three-level tree laid out by hand, so that its node numbers can be named in tests.
 
+use crate::format::Format;
 use crate::key::Key;
 use crate::node::*;
 
@@ -15,20 +16,25 @@ use crate::node::*;
 ///
 /// Every pointer has the first key of its child, so that 10 and 50 stand on all three levels.
 pub fn three_levels_by_hand() -> Vec<u8> {
-    let mut image = vec![0; 11 * NODE_SIZE];
-    put(&mut image, 0, |node| write_header(node, &HEADER));
-    put(&mut image, 10, |node| write_map(node, 0));
-    put_index(&mut image, 1, (0, 0, 3), [(10, 2), (50, 3)]);
-    put_index(&mut image, 2, (0, 3, 2), [(10, 4), (30, 5)]);
-    put_index(&mut image, 3, (2, 0, 2), [(50, 6), (70, 7)]);
-    put_leaf(&mut image, 4, (0, 5), [10, 20]);
-    put_leaf(&mut image, 5, (4, 6), [30, 40]);
-    put_leaf(&mut image, 6, (5, 7), [50, 60]);
-    put_leaf(&mut image, 7, (6, 0), [70, 80]);
+    three_levels_by_hand_in(Format::HFS)
+}
+
+/// The same tree in any format; every data byte of a record is its file number.
+pub fn three_levels_by_hand_in(format: Format) -> Vec<u8> {
+    let mut image = Image { format, bytes: vec![0; 11 * format.node_size] };
+    write_header(format, image.node(0), &HEADER);
+    write_map(format, image.node(10), 0);
+    image.put_index(1, (0, 0, 3), [(10, 2), (50, 3)]);
+    image.put_index(2, (0, 3, 2), [(10, 4), (30, 5)]);
+    image.put_index(3, (2, 0, 2), [(50, 6), (70, 7)]);
+    image.put_leaf(4, (0, 5), [10, 20]);
+    image.put_leaf(5, (4, 6), [30, 40]);
+    image.put_leaf(6, (5, 7), [50, 60]);
+    image.put_leaf(7, (6, 0), [70, 80]);
     // Bits 0 to 7, and bit 10 for the map node.
-    image[HEADER_MAP_AT] = 0b1111_1111;
-    image[HEADER_MAP_AT + 1] = 0b0010_0000;
-    image
+    image.bytes[HEADER_MAP_AT] = 0b1111_1111;
+    image.bytes[HEADER_MAP_AT + 1] = 0b0010_0000;
+    image.bytes
 }
 
 /// The key that stands for a file number in the tree by hand.
@@ -36,7 +42,7 @@ pub fn file_key(file: u32) -> Key {
     Key::new(file, 0x00, 0)
 }
 
-/// The data of a file's record in the tree by hand.
+/// The data of a file's record in the HFS tree by hand.
 pub fn file_data(file: u32) -> [u8; 12] {
     [file as u8; 12]
 }
@@ -54,21 +60,28 @@ const HEADER: HeaderFields = HeaderFields {
 
 type IndexPosition = (u32, u32, u8);
 
-fn put_index(image: &mut [u8], number: u32, position: IndexPosition, pointers: [(u32, u32); 2]) {
-    let (back, forward, level) = position;
-    let pointers = pointers.map(|(file, child)| Pointer { key: file_key(file), child });
-    let descriptor = Descriptor { forward, back, level };
-    put(image, number, |node| write_index(node, descriptor, &pointers));
+struct Image {
+    format: Format,
+    bytes: Vec<u8>,
 }
 
-fn put_leaf(image: &mut [u8], number: u32, (back, forward): (u32, u32), files: [u32; 2]) {
-    let records = files.map(|file| Record { key: file_key(file), data: file_data(file) });
-    let descriptor = Descriptor { forward, back, level: 1 };
-    put(image, number, |node| write_leaf(node, descriptor, &records));
-}
+impl Image {
+    fn node(&mut self, number: usize) -> &mut [u8] {
+        let size = self.format.node_size;
+        &mut self.bytes[number * size..(number + 1) * size]
+    }
 
-fn put(image: &mut [u8], number: u32, write: impl FnOnce(&mut Node)) {
-    let mut node = [0; NODE_SIZE];
-    write(&mut node);
-    put_node(image, number, &node);
+    fn put_index(&mut self, number: usize, position: IndexPosition, pointers: [(u32, u32); 2]) {
+        let (back, forward, level) = position;
+        let pointers = pointers.map(|(file, child)| Pointer { key: file_key(file), child });
+        let descriptor = Descriptor { forward, back, level };
+        write_index(self.format, self.node(number), descriptor, &pointers);
+    }
+
+    fn put_leaf(&mut self, number: usize, (back, forward): (u32, u32), files: [u32; 2]) {
+        let data = |file| vec![file as u8; self.format.data_size()];
+        let records = files.map(|file| Record { key: file_key(file), data: data(file) });
+        let descriptor = Descriptor { forward, back, level: 1 };
+        write_leaf(self.format, self.node(number), descriptor, &records);
+    }
 }

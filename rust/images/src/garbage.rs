@@ -1,46 +1,48 @@
 //! What free nodes may hold: remains of nodes that were once in use.
 
+use crate::format::Format;
 use crate::key::Key;
-use crate::node::{write_index, write_leaf, write_map, Descriptor, Node, Pointer, Record};
-use crate::node::{MOST_INDEX_RECORDS, MOST_LEAF_RECORDS, NODE_SIZE};
+use crate::node::{write_index, write_leaf, write_map, Descriptor, Pointer, Record};
 use crate::rng::Rng;
 
 /// The remains of some node; its records may have keys of the tree, with other data.
-pub fn old_node(rng: &mut Rng, records: &[Record]) -> Node {
-    let mut node = [0; NODE_SIZE];
+pub fn old_node(rng: &mut Rng, format: Format, records: &[Record]) -> Vec<u8> {
+    let mut node = vec![0; format.node_size];
     match rng.index(6) {
         0 => {}
         1 => rng.fill(&mut node),
-        2 => write_map(&mut node, 0),
-        3 => old_index(rng, &mut node, records),
-        4 => broken_leaf(rng, &mut node, records),
-        _ => old_leaf(rng, &mut node, records),
+        2 => write_map(format, &mut node, 0),
+        3 => old_index(rng, format, &mut node, records),
+        4 => broken_leaf(rng, format, &mut node, records),
+        _ => old_leaf(rng, format, &mut node, records),
     }
     node
 }
 
-fn old_leaf(rng: &mut Rng, node: &mut Node, records: &[Record]) {
-    let keys = old_keys(rng, records, MOST_LEAF_RECORDS);
+fn old_leaf(rng: &mut Rng, format: Format, node: &mut [u8], records: &[Record]) {
+    fill_pads(rng, format, node);
+    let keys = old_keys(rng, format, records, format.most_leaf_records());
     let old: Vec<Record> = keys
         .into_iter()
         .map(|key| {
-            let mut data = [0; 12];
+            let mut data = vec![0; format.data_size()];
             rng.fill(&mut data);
             Record { key, data }
         })
         .collect();
     let descriptor = old_descriptor(rng);
-    write_leaf(node, descriptor, &old);
+    write_leaf(format, node, descriptor, &old);
 }
 
 /// An old leaf with one byte changed, so that it may no longer count for a salvage.
-fn broken_leaf(rng: &mut Rng, node: &mut Node, records: &[Record]) {
-    old_leaf(rng, node, records);
-    node[rng.index(NODE_SIZE)] = rng.next_u64() as u8;
+fn broken_leaf(rng: &mut Rng, format: Format, node: &mut [u8], records: &[Record]) {
+    old_leaf(rng, format, node, records);
+    node[rng.index(format.node_size)] = rng.next_u64() as u8;
 }
 
-fn old_index(rng: &mut Rng, node: &mut Node, records: &[Record]) {
-    let keys = old_keys(rng, records, MOST_INDEX_RECORDS);
+fn old_index(rng: &mut Rng, format: Format, node: &mut [u8], records: &[Record]) {
+    fill_pads(rng, format, node);
+    let keys = old_keys(rng, format, records, format.most_index_records());
     let old: Vec<Pointer> = keys
         .into_iter()
         .map(|key| {
@@ -49,7 +51,14 @@ fn old_index(rng: &mut Rng, node: &mut Node, records: &[Record]) {
         })
         .collect();
     let descriptor = old_descriptor(rng);
-    write_index(node, descriptor, &old);
+    write_index(format, node, descriptor, &old);
+}
+
+/// Noise for the records to be written over, which leaves the pads of their keys.
+fn fill_pads(rng: &mut Rng, format: Format, node: &mut [u8]) {
+    if format.pad_at().is_some() {
+        rng.fill(node);
+    }
 }
 
 fn old_descriptor(rng: &mut Rng) -> Descriptor {
@@ -61,12 +70,12 @@ fn old_descriptor(rng: &mut Rng) -> Descriptor {
 }
 
 /// Ascending keys, about half of them from the tree.
-fn old_keys(rng: &mut Rng, records: &[Record], most: usize) -> Vec<Key> {
+fn old_keys(rng: &mut Rng, format: Format, records: &[Record], most: usize) -> Vec<Key> {
     let count = rng.between(1, most as u64);
     let mut keys: Vec<Key> = (0..count)
         .map(|_| {
             if records.is_empty() || rng.flip() {
-                Key::from_rank(rng.next_u64() >> 15)
+                any_key(rng, format)
             } else {
                 records[rng.index(records.len())].key
             }
@@ -75,4 +84,10 @@ fn old_keys(rng: &mut Rng, records: &[Record], most: usize) -> Vec<Key> {
     keys.sort_unstable();
     keys.dedup();
     keys
+}
+
+fn any_key(rng: &mut Rng, format: Format) -> Key {
+    // A random part of all ranks, as there may be more of them than 64 bits can number.
+    let part = u128::from(rng.next_u64());
+    format.key_of_rank((part * (format.lawful_keys() >> 32)) >> 32)
 }

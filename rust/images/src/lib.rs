@@ -1,10 +1,13 @@
-//! Builds images of extents overflow files: sound ones, the paper's bench images and spoiled ones.
+//! Builds images of extents overflow files, of HFS and HFS Plus: sound ones, the paper's bench images
+//! and spoiled ones.
 //!
 //! Nothing here reads an image back; what a reader should say follows from how it was built.
 
 pub mod bench;
+pub mod bench_plus;
 mod build;
 pub mod by_hand;
+pub mod format;
 mod garbage;
 pub mod key;
 mod largest;
@@ -15,8 +18,10 @@ pub mod rng;
 pub mod samples;
 mod shape;
 pub mod spoil;
+mod trees;
 
 pub use build::{build, Built, Level};
+pub use format::{Edition, Format, PLUS_NODE_SIZES};
 pub use key::Key;
 pub use node::{Pointer, Record};
 pub use plan::Plan;

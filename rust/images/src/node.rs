@@ -1,30 +1,22 @@
-//! Writes single nodes; bytes that no field names stay as they are.
+//! Writes single nodes; bytes that no field names, pads of keys among them, stay as they are.
 
+pub use crate::format::{HEADER_MAP_AT, RECORDS_AT};
+
+use crate::format::Format;
 use crate::key::Key;
 
-pub const NODE_SIZE: usize = 512;
 pub const MOST_NODES: usize = 65_536;
-pub const RECORDS_AT: usize = 14;
-pub const LEAF_RECORD_SIZE: usize = 20;
-pub const INDEX_RECORD_SIZE: usize = 12;
-pub const MOST_LEAF_RECORDS: usize = 22;
-pub const MOST_INDEX_RECORDS: usize = 35;
-pub const HEADER_BITS: usize = 2_048;
-pub const MAP_NODE_BITS: usize = 3_952;
-pub const HEADER_MAP_AT: usize = 0xF8;
 
 pub const INDEX_KIND: u8 = 0x00;
 pub const HEADER_KIND: u8 = 0x01;
 pub const MAP_KIND: u8 = 0x02;
 pub const LEAF_KIND: u8 = 0xFF;
 
-pub type Node = [u8; NODE_SIZE];
-
 /// A leaf record.
-#[derive(Clone, Copy, Debug, PartialEq, Eq)]
+#[derive(Clone, Debug, PartialEq, Eq)]
 pub struct Record {
     pub key: Key,
-    pub data: [u8; 12],
+    pub data: Vec<u8>,
 }
 
 /// An index record.
@@ -55,7 +47,7 @@ pub struct HeaderFields {
     pub free: u32,
 }
 
-pub fn write_header(node: &mut Node, fields: &HeaderFields) {
+pub fn write_header(format: Format, node: &mut [u8], fields: &HeaderFields) {
     let descriptor = Descriptor { forward: fields.forward, back: 0, level: 0 };
     write_descriptor(node, descriptor, HEADER_KIND, 3);
     put16(node, 14, fields.depth);
@@ -63,45 +55,46 @@ pub fn write_header(node: &mut Node, fields: &HeaderFields) {
     put32(node, 20, fields.leaf_records);
     put32(node, 24, fields.first_leaf);
     put32(node, 28, fields.last_leaf);
-    put16(node, 32, 512);
-    put16(node, 34, 7);
+    put16(node, 32, format.node_size as u16);
+    put16(node, 34, format.key_length());
     put32(node, 36, fields.total);
     put32(node, 40, fields.free);
-    write_offsets(node, &[0x0E, 0x78, 0xF8, 0x1F8]);
+    write_offsets(node, &[RECORDS_AT, 0x78, HEADER_MAP_AT, format.header_map().end]);
 }
 
-pub fn write_map(node: &mut Node, forward: u32) {
+pub fn write_map(format: Format, node: &mut [u8], forward: u32) {
     let descriptor = Descriptor { forward, back: 0, level: 0 };
     write_descriptor(node, descriptor, MAP_KIND, 1);
-    write_offsets(node, &[0x0E, 0x1FC]);
+    write_offsets(node, &[RECORDS_AT, format.node_map().end]);
 }
 
-/// Writes a leaf; more records than fit are written too, the offsets over the last of them.
-pub fn write_leaf(node: &mut Node, descriptor: Descriptor, records: &[Record]) {
+/// Writes a leaf; more records than fit are written as far as they do, the offsets over the last.
+pub fn write_leaf(format: Format, node: &mut [u8], descriptor: Descriptor, records: &[Record]) {
     write_descriptor(node, descriptor, LEAF_KIND, records.len() as u16);
     for (index, record) in records.iter().enumerate() {
-        let at = RECORDS_AT + index * LEAF_RECORD_SIZE;
-        node[at..at + 8].copy_from_slice(&record.key.bytes());
-        node[at + 8..at + 20].copy_from_slice(&record.data);
+        let at = RECORDS_AT + index * format.leaf_record_size();
+        put_key(format, node, at, record.key);
+        put_what_fits(node, at + format.key_size(), &record.data);
     }
-    write_offsets(node, &side_by_side(records.len(), LEAF_RECORD_SIZE));
+    write_offsets(node, &side_by_side(records.len(), format.leaf_record_size()));
 }
 
-/// Writes an index node; more records than fit are written too, the offsets over the last of them.
-pub fn write_index(node: &mut Node, descriptor: Descriptor, pointers: &[Pointer]) {
+/// Writes an index node; more records than fit are written as far as they do, the offsets over the
+/// last.
+pub fn write_index(format: Format, node: &mut [u8], descriptor: Descriptor, pointers: &[Pointer]) {
     write_descriptor(node, descriptor, INDEX_KIND, pointers.len() as u16);
     for (index, pointer) in pointers.iter().enumerate() {
-        let at = RECORDS_AT + index * INDEX_RECORD_SIZE;
-        node[at..at + 8].copy_from_slice(&pointer.key.bytes());
-        put32(node, at + 8, pointer.child);
+        let at = RECORDS_AT + index * format.index_record_size();
+        put_key(format, node, at, pointer.key);
+        put_what_fits(node, at + format.key_size(), &pointer.child.to_be_bytes());
     }
-    write_offsets(node, &side_by_side(pointers.len(), INDEX_RECORD_SIZE));
+    write_offsets(node, &side_by_side(pointers.len(), format.index_record_size()));
 }
 
 /// Copies a node to its place in the image.
-pub fn put_node(image: &mut [u8], number: u32, node: &Node) {
-    let at = number as usize * NODE_SIZE;
-    image[at..at + NODE_SIZE].copy_from_slice(node);
+pub fn put_node(image: &mut [u8], number: u32, node: &[u8]) {
+    let at = number as usize * node.len();
+    image[at..at + node.len()].copy_from_slice(node);
 }
 
 pub fn put16(bytes: &mut [u8], at: usize, value: u16) {
@@ -113,16 +106,28 @@ pub fn put32(bytes: &mut [u8], at: usize, value: u32) {
 }
 
 /// Where the byte with a node's map bit stands in the image.
-pub fn map_byte_at(map_chain: &[u32], bit: usize) -> usize {
-    if bit < HEADER_BITS {
+pub fn map_byte_at(format: Format, map_chain: &[u32], bit: usize) -> usize {
+    if bit < format.header_bits() {
         return HEADER_MAP_AT + bit / 8;
     }
-    let beyond = bit - HEADER_BITS;
-    let number = map_chain[beyond / MAP_NODE_BITS] as usize;
-    number * NODE_SIZE + RECORDS_AT + beyond % MAP_NODE_BITS / 8
+    let beyond = bit - format.header_bits();
+    let number = map_chain[beyond / format.map_node_bits()] as usize;
+    number * format.node_size + RECORDS_AT + beyond % format.map_node_bits() / 8
 }
 
-fn write_descriptor(node: &mut Node, descriptor: Descriptor, kind: u8, count: u16) {
+fn put_key(format: Format, node: &mut [u8], at: usize, key: Key) {
+    let pad = format.pad_at().and_then(|pad_at| node.get(at + pad_at));
+    let pad = pad.copied().unwrap_or(0);
+    put_what_fits(node, at, &format.key_bytes(key, pad));
+}
+
+fn put_what_fits(node: &mut [u8], at: usize, bytes: &[u8]) {
+    for (place, byte) in node.iter_mut().skip(at).zip(bytes) {
+        *place = *byte;
+    }
+}
+
+fn write_descriptor(node: &mut [u8], descriptor: Descriptor, kind: u8, count: u16) {
     put32(node, 0, descriptor.forward);
     put32(node, 4, descriptor.back);
     node[8] = kind;
@@ -131,12 +136,12 @@ fn write_descriptor(node: &mut Node, descriptor: Descriptor, kind: u8, count: u1
     put16(node, 12, 0);
 }
 
-fn side_by_side(count: usize, size: usize) -> Vec<u16> {
-    (0..=count).map(|i| (RECORDS_AT + i * size) as u16).collect()
+fn side_by_side(count: usize, size: usize) -> Vec<usize> {
+    (0..=count).map(|index| RECORDS_AT + index * size).collect()
 }
 
-fn write_offsets(node: &mut Node, offsets: &[u16]) {
+fn write_offsets(node: &mut [u8], offsets: &[usize]) {
     for (index, &offset) in offsets.iter().enumerate() {
-        put16(node, NODE_SIZE - 2 - 2 * index, offset);
+        put16(node, node.len() - 2 - 2 * index, offset as u16);
     }
 }

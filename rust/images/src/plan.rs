@@ -1,15 +1,16 @@
 //! What a generated image is to look like.
 
-use crate::node::{HEADER_BITS, MAP_NODE_BITS, MOST_INDEX_RECORDS, MOST_LEAF_RECORDS};
+use crate::format::Format;
 use crate::rng::Rng;
 use std::ops::RangeInclusive;
 
 /// The wishes for a generated sound image.
 #[derive(Clone, Debug)]
 pub struct Plan {
+    pub format: Format,
     pub seed: u64,
     /// Nodes on each level, root first; empty for depth 0. A level has at least as many nodes as
-    /// the one above it and at most 35 times as many.
+    /// the one above it and at most as many times more as fit in an index node, 35 times in HFS.
     pub level_sizes: Vec<usize>,
     pub records_per_leaf: RangeInclusive<usize>,
     /// Map nodes wanted; more are added if the nodes need them.
@@ -24,12 +25,19 @@ pub struct Plan {
 }
 
 impl Plan {
-    /// A tidy tree with full leaves, nothing free and no map node unless it is needed.
+    /// A tidy HFS tree with full leaves, nothing free and no map node unless it is needed.
     pub fn tidy(seed: u64, level_sizes: &[usize]) -> Plan {
+        Plan::tidy_in(Format::HFS, seed, level_sizes)
+    }
+
+    /// A tidy tree as `tidy` has it, in any format.
+    pub fn tidy_in(format: Format, seed: u64, level_sizes: &[usize]) -> Plan {
+        let most_in_leaf = format.most_leaf_records();
         Plan {
+            format,
             seed,
             level_sizes: level_sizes.to_vec(),
-            records_per_leaf: MOST_LEAF_RECORDS..=MOST_LEAF_RECORDS,
+            records_per_leaf: most_in_leaf..=most_in_leaf,
             map_nodes: 0,
             free_nodes: 0,
             shuffled: false,
@@ -40,24 +48,35 @@ impl Plan {
 
     /// The same tree as `tidy` would make, in an untidy image.
     pub fn untidy(seed: u64, level_sizes: &[usize]) -> Plan {
+        Plan::untidy_in(Format::HFS, seed, level_sizes)
+    }
+
+    /// The same tree as `tidy_in` would make, in an untidy image.
+    pub fn untidy_in(format: Format, seed: u64, level_sizes: &[usize]) -> Plan {
         Plan {
-            records_per_leaf: 1..=MOST_LEAF_RECORDS,
+            records_per_leaf: 1..=format.most_leaf_records(),
             free_nodes: 9,
             shuffled: true,
             old_garbage: true,
             noise: true,
-            ..Plan::tidy(seed, level_sizes)
+            ..Plan::tidy_in(format, seed, level_sizes)
         }
     }
 
-    /// A plan of the given depth in which everything else is left to chance.
+    /// An HFS plan of the given depth in which everything else is left to chance.
     pub fn random(seed: u64, depth: usize, widest: usize) -> Plan {
+        Plan::random_in(Format::HFS, seed, depth, widest)
+    }
+
+    /// A plan as `random` has it, in any format.
+    pub fn random_in(format: Format, seed: u64, depth: usize, widest: usize) -> Plan {
         let mut rng = Rng::new(!seed);
-        let most_in_leaf = rng.between(1, MOST_LEAF_RECORDS as u64) as usize;
+        let most_in_leaf = rng.between(1, format.most_leaf_records() as u64) as usize;
         let least_in_leaf = rng.between(1, most_in_leaf as u64) as usize;
         Plan {
+            format,
             seed,
-            level_sizes: random_level_sizes(&mut rng, depth, widest),
+            level_sizes: random_level_sizes(&mut rng, format, depth, widest),
             records_per_leaf: least_in_leaf..=most_in_leaf,
             map_nodes: rng.index(3),
             free_nodes: rng.index(12),
@@ -75,7 +94,7 @@ impl Plan {
     pub fn map_nodes_made(&self) -> usize {
         let others = 1 + self.tree_nodes() + self.free_nodes;
         let mut made = self.map_nodes;
-        while HEADER_BITS + made * MAP_NODE_BITS < others + made {
+        while self.format.header_bits() + made * self.format.map_node_bits() < others + made {
             made += 1;
         }
         made
@@ -86,13 +105,13 @@ impl Plan {
     }
 }
 
-fn random_level_sizes(rng: &mut Rng, depth: usize, widest: usize) -> Vec<usize> {
+fn random_level_sizes(rng: &mut Rng, format: Format, depth: usize, widest: usize) -> Vec<usize> {
     let mut sizes = Vec::new();
     for _ in 0..depth {
         let size = match sizes.last() {
             None => 1,
             Some(&above) => {
-                let most = widest.min(above * MOST_INDEX_RECORDS).max(above);
+                let most = widest.min(above * format.most_index_records()).max(above);
                 rng.between(above as u64, most as u64) as usize
             }
         };

@@ -1,6 +1,7 @@
 //! Generated images with names, for tests and measurements.
 
 use crate::build::{build, Built};
+use crate::format::Format;
 use crate::largest::largest_plan;
 use crate::plan::Plan;
 
@@ -57,7 +58,7 @@ pub fn largest() -> Built {
 
 /// The same tree with its nodes in the order of their levels.
 pub fn largest_in_order() -> Built {
-    build(&largest_plan(5, 65_536))
+    build(&largest_plan(Format::HFS, 5, 65_536))
 }
 
 /// The most leaf records that exactly so many nodes can hold, all in full leaves.
@@ -69,5 +70,24 @@ pub fn largest_in_order() -> Built {
 ///
 /// Each of these is just what is left, and another leaf would need one node more.
 pub fn largest_of(nodes: usize) -> Built {
-    build(&Plan { shuffled: true, ..largest_plan(5, nodes) })
+    build(&Plan { shuffled: true, ..largest_plan(Format::HFS, 5, nodes) })
+}
+
+/// An HFS Plus tree of two levels in 20 nodes of 4,096 bytes, untidy in every allowed way.
+pub fn two_level_plus() -> Built {
+    let format = Format::plus(4_096);
+    build(&Plan { map_nodes: 2, free_nodes: 6, ..Plan::untidy_in(format, 8, &[1, 10]) })
+}
+
+/// An HFS Plus tree of three levels in 40 nodes of 512 bytes, with a map node that is not needed.
+pub fn three_level_plus() -> Built {
+    let format = Format::plus(512);
+    build(&Plan { map_nodes: 1, free_nodes: 6, ..Plan::untidy_in(format, 9, &[1, 4, 27]) })
+}
+
+/// The most leaf records that exactly so many nodes of 4,096 bytes can hold in HFS Plus.
+///
+/// 8,192 nodes have 33,554,432 bytes; the header has bits for 30,720, so they need no map node.
+pub fn largest_plus(nodes: usize) -> Built {
+    build(&Plan { shuffled: true, ..largest_plan(Format::plus(4_096), 5, nodes) })
 }

@@ -1,7 +1,8 @@
 //! Which node holds what: how records and nodes are shared out, and the pointer keys over them.
 
-use crate::key::{Key, LAWFUL_KEYS};
-use crate::node::{Record, MOST_INDEX_RECORDS};
+use crate::format::Format;
+use crate::key::Key;
+use crate::node::Record;
 use crate::plan::Plan;
 use crate::rng::Rng;
 use std::ops::Range;
@@ -14,12 +15,13 @@ pub struct ShapeLevel {
     pub pointers: Vec<Key>,
 }
 
-/// Shares the children out over the parents, at least one and at most 35 to each.
-pub fn share_nodes(rng: &mut Rng, sizes: &[usize]) -> Vec<Vec<Range<usize>>> {
-    sizes
+/// Shares the children out over the parents, at least one to each and at most what fits.
+pub fn share_nodes(rng: &mut Rng, plan: &Plan) -> Vec<Vec<Range<usize>>> {
+    let most = plan.format.most_index_records();
+    plan.level_sizes
         .windows(2)
         .map(|pair| {
-            let counts = share(rng, pair[1], pair[0], MOST_INDEX_RECORDS);
+            let counts = share(rng, pair[1], pair[0], most);
             consecutive(&counts)
         })
         .collect()
@@ -35,16 +37,19 @@ pub fn share_records(rng: &mut Rng, plan: &Plan) -> Vec<Range<usize>> {
 }
 
 /// Records with strictly ascending keys, some close together and some far apart.
-pub fn make_records(rng: &mut Rng, count: usize) -> Vec<Record> {
-    let widest_gap = LAWFUL_KEYS / (count as u64 + 1);
-    let gaps = [1, 1, 3, 40, 70_000, 1_000_000, widest_gap];
-    let mut rank = rng.between(0, 2);
+pub fn make_records(rng: &mut Rng, format: Format, count: usize) -> Vec<Record> {
+    let widest_gap = format.lawful_keys() / (count as u128 + 1);
+    let widest_gap = u64::try_from(widest_gap).unwrap_or(u64::MAX);
+    // As far as the next fork, which is 16 bits further away where start blocks have 32.
+    let beyond_fork = 70_000 << (format.start_bits() - 16);
+    let gaps = [1, 1, 3, 40, beyond_fork, 1_000_000, widest_gap];
+    let mut rank = u128::from(rng.between(0, 2));
     (0..count)
         .map(|_| {
-            let key = Key::from_rank(rank);
+            let key = format.key_of_rank(rank);
             let gap = gaps[rng.index(gaps.len())].min(widest_gap);
-            rank += rng.between(1, gap);
-            let mut data = [0; 12];
+            rank += u128::from(rng.between(1, gap));
+            let mut data = vec![0; format.data_size()];
             rng.fill(&mut data);
             Record { key, data }
         })

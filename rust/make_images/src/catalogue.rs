@@ -2,14 +2,14 @@
 
 use images::bench::*;
 use images::by_hand::three_levels_by_hand;
-use images::samples;
 use images::spoil::{spoilings, Spoiling};
-use images::{Built, Key};
+use images::{bench_plus, samples, Built, Format, Key};
 use std::collections::BTreeMap;
 
-/// An image with the name of its file.
+/// An image with the name of its file and the format it is to be read in.
 pub struct Sample {
     pub name: String,
+    pub format: Format,
     pub image: Vec<u8>,
 }
 
@@ -26,6 +26,9 @@ pub fn catalogue() -> Vec<Sample> {
     all.push(sample("largest_of_100_nodes", samples::largest_of(100).image));
     all.push(sample("largest_of_6000_nodes", samples::largest_of(6_000).image));
     all.push(sample("largest", samples::largest().image));
+    all.extend(plus_bench_samples());
+    all.extend(with_spoiled("plus_512_three_level", samples::three_level_plus()));
+    all.extend(with_spoiled("plus_4096_two_level", samples::two_level_plus()));
     all
 }
 
@@ -65,6 +68,30 @@ fn pointer_samples() -> [Sample; 3] {
     ]
 }
 
+/// HFS Plus images; their names say the node size that they are to be read in.
+fn plus_bench_samples() -> Vec<Sample> {
+    let in_512 = |name: &str, image| plus_sample(512, name, image);
+    let in_4096 = |name: &str, image| plus_sample(4_096, name, image);
+    vec![
+        in_512("e1", bench_plus::e1()),
+        in_512("e1_map_byte_00", bench_plus::e1_with_map_byte(0x00)),
+        in_512("e1_map_byte_c0", bench_plus::e1_with_map_byte(0xC0)),
+        in_512("e1_free_1", bench_plus::e1_with_free_1()),
+        in_512("l1", bench_plus::l1()),
+        in_512("l1_back_link_1", bench_plus::l1_with_back_link_1()),
+        in_512("l1_pad_a5", bench_plus::l1_with_pad(0xA5)),
+        in_512("leaf_6_records", bench_plus::leaf_with(512, 6)),
+        in_512("leaf_7_records", bench_plus::leaf_with(512, 7)),
+        in_512("index_27_records", bench_plus::index_with(512, 27)),
+        in_512("index_28_records", bench_plus::index_with(512, 28)),
+        in_512("map_node_linked_to_itself", bench_plus::map_node_linked_to_itself(512)),
+        in_512("l1_in_nodes_of_1024", bench_plus::l1_in(1_024)),
+        in_4096("two_full_leaves", bench_plus::two_full_leaves()),
+        in_4096("leaf_52_records", bench_plus::leaf_with(4_096, 52)),
+        in_4096("leaf_53_records", bench_plus::leaf_with(4_096, 53)),
+    ]
+}
+
 /// The sound image, and two spoiled versions for each thing that can be wrong with it.
 fn with_spoiled(name: &str, built: Built) -> Vec<Sample> {
     // The first of a kind lies near the root and the last one in a leaf, so both are kept.
@@ -75,13 +102,14 @@ fn with_spoiled(name: &str, built: Built) -> Vec<Sample> {
         kept.truncate(1);
         kept.push(spoiling);
     }
-    let mut all = vec![sample(name, built.image.clone())];
+    let in_format = |name: &str, image| Sample { format: built.format, ..sample(name, image) };
+    let mut all = vec![in_format(name, built.image.clone())];
     for spoiling in kinds.values().flatten() {
         let mut image = built.image.clone();
         spoiling.apply(&mut image);
         // A long one of zeros is among the bench images already.
         if image.len() <= 2 * built.image.len() {
-            all.push(sample(&format!("{name}_{}", spoiling.name()), image));
+            all.push(in_format(&format!("{name}_{}", spoiling.name()), image));
         }
     }
     all
@@ -92,7 +120,12 @@ fn kind_of(what: &str) -> String {
     what.chars().filter(|c| !c.is_ascii_digit()).collect()
 }
 
+fn plus_sample(node_size: usize, name: &str, image: Vec<u8>) -> Sample {
+    let format = Format::plus(node_size);
+    Sample { format, ..sample(&format!("plus_{node_size}_{name}"), image) }
+}
+
 fn sample(name: &str, image: Vec<u8>) -> Sample {
     let name = name.to_string();
-    Sample { name, image }
+    Sample { name, format: Format::HFS, image }
 }

@@ -3,7 +3,9 @@
 mod catalogue;
 
 use catalogue::{catalogue, Sample};
-use reference::{check, listing, needed_work, Verdict};
+use images::Edition;
+use reference::editions::{check, needed_work};
+use reference::{listing, Verdict};
 use std::path::{Path, PathBuf};
 use std::process::ExitCode;
 use std::{env, fs, io};
@@ -31,11 +33,16 @@ fn write_all(folder: &Path) -> io::Result<usize> {
     fs::create_dir_all(folder)?;
     let samples = catalogue();
     let mut verdicts = String::new();
-    for Sample { name, image } in &samples {
+    for Sample { name, format, image } in &samples {
         fs::write(folder.join(format!("{name}.img")), image)?;
-        fs::write(folder.join(format!("{name}.expected")), listing(image))?;
-        let mut work = vec![0; needed_work(image.len())];
-        let Verdict { number, place } = check(image, &mut work);
+        // The listing program reads HFS only.
+        if format.edition == Edition::Hfs {
+            fs::write(folder.join(format!("{name}.expected")), listing(image))?;
+        }
+        let node_size = format.node_size as u32;
+        let mut work = vec![0; needed_work(node_size, image.len())];
+        let edition = format.edition_number();
+        let Verdict { number, place } = check(edition, node_size, image, &mut work);
         verdicts += &format!("{name} {number} {} {}\n", place.node, place.offset);
     }
     fs::write(folder.join("verdicts.txt"), verdicts)?;

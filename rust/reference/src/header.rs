@@ -1,14 +1,18 @@
 //! Test 2: what the header node says and whether it may say so.
 
+use crate::edition::Edition;
 use crate::node::{
-    back_link, be16, be32, kind, level, record_count, reserved, Node, HEADER_KIND, NODE_SIZE,
+    back_link, be16, be32, ends_in, kind, level, record_count, reserved, Node, HEADER_KIND,
+    RECORDS_AT,
 };
+use std::ops::Range;
 
 /// Where the root's number stands in the header node.
 pub const ROOT_AT: usize = 16;
 
 const MOST_DEPTH: usize = 8;
-const OFFSET_WORDS: [u8; 8] = [0x01, 0xF8, 0x00, 0xF8, 0x00, 0x78, 0x00, 0x0E];
+const USER_RECORD_AT: usize = 0x78;
+const MAP_RECORD_AT: usize = 0xF8;
 
 /// The fields of the header record.
 pub struct Header {
@@ -24,7 +28,7 @@ pub struct Header {
 }
 
 impl Header {
-    pub fn read(node: &Node) -> Header {
+    pub fn read<const N: usize>(node: &Node<N>) -> Header {
         Header {
             depth: usize::from(be16(node, 14)),
             root: be32(node, ROOT_AT),
@@ -39,9 +43,9 @@ impl Header {
     }
 
     /// Whether the fields are possible in an image of `node_count` nodes.
-    pub fn is_possible(&self, node_count: usize) -> bool {
-        self.node_size == 512
-            && self.key_length == 7
+    pub fn is_possible<E: Edition, const N: usize>(&self, node_count: usize) -> bool {
+        usize::from(self.node_size) == N
+            && self.key_length == E::KEY_LENGTH
             && self.total_nodes as usize == node_count
             && self.depth <= MOST_DEPTH
             && (self.depth > 0 || self.names_no_tree())
@@ -52,12 +56,18 @@ impl Header {
     }
 }
 
+/// Where the first map record stands in the header: up to the four offset words.
+pub fn map_record<const N: usize>() -> Range<usize> {
+    MAP_RECORD_AT..N - 8
+}
+
 /// Whether the node around the header record is a header node; its forward link is the map's.
-pub fn is_header_node(node: &Node) -> bool {
+pub fn is_header_node<const N: usize>(node: &Node<N>) -> bool {
+    let starts = [map_record::<N>().end, MAP_RECORD_AT, USER_RECORD_AT, RECORDS_AT];
     back_link(node) == 0
         && kind(node) == HEADER_KIND
         && level(node) == 0
         && record_count(node) == 3
         && reserved(node) == 0
-        && node[NODE_SIZE - OFFSET_WORDS.len()..] == OFFSET_WORDS
+        && ends_in(node, starts.map(|start| start as u16))
 }

@@ -1,9 +1,13 @@
 //! The leaf list: every leaf record in the order of the forward links.
 
+use crate::edition::{Edition, LeafBytes};
 use crate::header::Header;
+use crate::hfs::{key, Hfs, LEAF_DATA_SIZE, NODE_SIZE};
 use crate::key::{Key, KEY_SIZE};
 use crate::node::{forward_link, whole_nodes};
-use crate::record::{key, Leaf, LeafBytes, LEAF_DATA_SIZE};
+use crate::record::Keyed;
+
+type Leaf = <Hfs as Edition>::Leaf;
 
 /// One record of the leaf list.
 #[derive(Clone, Copy, Debug, PartialEq, Eq)]
@@ -21,7 +25,7 @@ pub struct LeafRecord {
 /// Of an unsound image it reads what the links lead to: it ends at a link out of range or once it
 /// has read as many nodes as there are, and takes no more records than a leaf can hold.
 pub fn leaf_records(image: &[u8]) -> Vec<LeafRecord> {
-    let nodes = whole_nodes(image);
+    let nodes = whole_nodes::<NODE_SIZE>(image);
     let mut records = Vec::new();
     let mut next = match nodes.first() {
         Some(node) => Header::read(node).first_leaf,
@@ -41,7 +45,7 @@ pub fn leaf_records(image: &[u8]) -> Vec<LeafRecord> {
     records
 }
 
-fn read_record(node: u32, record: usize, bytes: &LeafBytes) -> LeafRecord {
+fn read_record(node: u32, record: usize, bytes: &LeafBytes<Hfs>) -> LeafRecord {
     let mut data = [0; LEAF_DATA_SIZE];
     data.copy_from_slice(&bytes[KEY_SIZE..]);
     let start = Leaf::start(record) as u32;

@@ -1,11 +1,16 @@
-//! A plain reader of an HFS extents overflow file held in one byte image.
+//! A plain reader of an extents overflow file, of HFS or HFS Plus, held in one byte image.
 //!
 //! It answers whether the image is sound, what stands under a key or under each of many, and
 //! what can be salvaged.
 
 mod check;
+mod edition;
+pub mod editions;
 mod halving;
 mod header;
+mod hfs;
+mod hfs_calls;
+mod hfs_plus;
 mod key;
 mod leaves;
 mod listing;
@@ -22,13 +27,13 @@ mod tree;
 mod verdict;
 mod work;
 
-pub use check::check;
+pub use hfs_calls::{check, lookup, salvage};
 pub use key::Key;
 pub use leaves::{leaf_records, LeafRecord};
 pub use listing::listing;
-pub use lookup::{lookup, Answer, Lookup};
+pub use lookup::{Answer, Lookup};
 pub use many::lookup_many;
 pub use place::Place;
-pub use salvage::{salvage, Salvage, SalvageAnswer};
+pub use salvage::{Salvage, SalvageAnswer};
 pub use verdict::Verdict;
 pub use work::needed_work;

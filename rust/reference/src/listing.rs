@@ -1,6 +1,6 @@
 //! What the listing program writes for an input.
 
-use crate::check::check;
+use crate::hfs_calls::check;
 use crate::leaves::{leaf_records, LeafRecord};
 use crate::verdict::Verdict;
 use crate::work::needed_work;

@@ -1,11 +1,12 @@
 //! What stands under a key of a sound image.
 
 use crate::check::{open, SoundImage};
+use crate::edition::{Asked, Edition};
 use crate::halving::halve;
-use crate::key::{is_lawful_fork, Key};
+use crate::key::is_lawful_fork;
 use crate::node::{range_in_image, Node};
 use crate::place::Place;
-use crate::record::{child, leaf_data, packed_key, Index, Leaf};
+use crate::record::{child, leaf_data, Keyed};
 use crate::verdict::{Verdict, ASKED_FORK};
 use std::ops::Range;
 
@@ -28,25 +29,28 @@ pub struct Lookup {
     /// Nodes read from the root down; unused places are 0.
     pub path: [u32; 8],
     pub path_len: usize,
-    /// The 12 data bytes of a found record.
+    /// The data bytes of a found record: 12 in HFS, 64 in HFS Plus.
     pub data: Option<Range<usize>>,
 }
 
 /// Looks a key up, after checking the fork byte and the whole image.
-///
-/// It treats `work` as [`check`](crate::check) does, and leaves it as it was where the fork byte is
-/// wrong.
-pub fn lookup(image: &[u8], file: u32, fork: u8, start: u16, work: &mut [u8]) -> Lookup {
+pub fn lookup<E: Edition, const N: usize>(
+    image: &[u8],
+    file: u32,
+    fork: u8,
+    start: u32,
+    work: &mut [u8],
+) -> Lookup {
     if !is_lawful_fork(fork) {
         return refused(Verdict::new(ASKED_FORK, Place::START));
     }
-    match open(image, work) {
-        Ok(sound) => descend(&sound, Key { file, fork, start }.packed()),
+    match open::<E, N>(image, work) {
+        Ok(sound) => descend::<E, N>(&sound, E::ask(file, fork, start)),
         Err(fault) => refused(fault),
     }
 }
 
-fn refused(fault: Verdict) -> Lookup {
+pub fn refused(fault: Verdict) -> Lookup {
     let Verdict { number, place } = fault;
     without_path(Answer::Refused { number, place })
 }
@@ -55,7 +59,7 @@ fn without_path(answer: Answer) -> Lookup {
     Lookup { answer, compared: 0, path: [0; 8], path_len: 0, data: None }
 }
 
-fn descend(sound: &SoundImage, asked: u64) -> Lookup {
+fn descend<E: Edition, const N: usize>(sound: &SoundImage<N>, asked: Asked<E::Packed>) -> Lookup {
     let mut lookup = without_path(Answer::Absent { node: 0 });
     let mut number = sound.header.root;
     while lookup.path_len < sound.header.depth {
@@ -64,28 +68,34 @@ fn descend(sound: &SoundImage, asked: u64) -> Lookup {
         lookup.path_len += 1;
         lookup.answer = Answer::Absent { node: number };
         if lookup.path_len == sound.header.depth {
-            search_leaf(&mut lookup, number, node, asked);
+            search_leaf::<E, N>(&mut lookup, number, node, asked);
             break;
         }
-        let pointers = Index::records(node);
-        let halving = halve(pointers, asked);
+        let pointers = E::Index::records(node);
+        let halving = halve::<E::Index>(pointers, asked.nearest);
         lookup.compared += halving.compared;
         match halving.reached {
             None => break,
-            Some(record) => number = child(&pointers[record]),
+            Some(record) => number = child::<E>(&pointers[record]),
         }
     }
     lookup
 }
 
-fn search_leaf(lookup: &mut Lookup, number: u32, node: &Node, asked: u64) {
-    let records = Leaf::records(node);
-    let halving = halve(records, asked);
+fn search_leaf<E: Edition, const N: usize>(
+    lookup: &mut Lookup,
+    number: u32,
+    node: &Node<N>,
+    asked: Asked<E::Packed>,
+) {
+    let records = E::Leaf::records(node);
+    let halving = halve::<E::Leaf>(records, asked.nearest);
     lookup.compared += halving.compared;
     // Halving only knows that the key is not above the asked one.
-    let has_key = |&record: &usize| packed_key(&records[record]) == asked;
+    let has_key =
+        |&record: &usize| asked.is_exact && E::Leaf::packed_key(&records[record]) == asked.nearest;
     if let Some(record) = halving.reached.filter(has_key) {
-        lookup.answer = Answer::Found { place: Place::in_node(number, Leaf::start(record)) };
-        lookup.data = Some(range_in_image(number as usize, leaf_data(record)));
+        lookup.answer = Answer::Found { place: Place::in_node(number, E::Leaf::start(record)) };
+        lookup.data = Some(range_in_image::<N>(number as usize, leaf_data::<E>(record)));
     }
 }

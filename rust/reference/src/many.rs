@@ -1,12 +1,17 @@
 //! What stands under each of many keys of a sound image.
 
 use crate::check::{open, SoundImage};
+use crate::edition::Edition;
 use crate::halving::halve;
+use crate::hfs::{Hfs, NODE_SIZE};
 use crate::key::is_lawful_packed;
 use crate::node::range_in_image;
 use crate::place::Place;
-use crate::record::{child, find_in_leaf, leaf_data, Index};
+use crate::record::{child, leaf_data, Keyed};
 use crate::verdict::{Verdict, RESULT_ROW};
+
+type Leaf = <Hfs as Edition>::Leaf;
+type Index = <Hfs as Edition>::Index;
 
 // Both lie in the header node, so no record's data can start there.
 const ABSENT: u32 = 0;
@@ -22,7 +27,7 @@ pub fn lookup_many(image: &[u8], keys: &[u64], results: &mut [u32], work: &mut [
     if results.len() < keys.len() {
         return Verdict::new(RESULT_ROW, Place::START);
     }
-    match open(image, work) {
+    match open::<Hfs, NODE_SIZE>(image, work) {
         Ok(sound) => {
             for (result, &asked) in results.iter_mut().zip(keys) {
                 *result = result_of(&sound, asked);
@@ -33,7 +38,7 @@ pub fn lookup_many(image: &[u8], keys: &[u64], results: &mut [u32], work: &mut [
     }
 }
 
-fn result_of(sound: &SoundImage, asked: u64) -> u32 {
+fn result_of(sound: &SoundImage<NODE_SIZE>, asked: u64) -> u32 {
     if !is_lawful_packed(asked) {
         return UNLAWFUL;
     }
@@ -42,14 +47,14 @@ fn result_of(sound: &SoundImage, asked: u64) -> u32 {
 }
 
 /// Where in the image the data under a key start, by a descent that keeps only its last node.
-fn data_start(sound: &SoundImage, asked: u64) -> Option<usize> {
+fn data_start(sound: &SoundImage<NODE_SIZE>, asked: u64) -> Option<usize> {
     let levels_above_leaves = sound.header.depth.checked_sub(1)?;
     let mut number = sound.header.root as usize;
     for _ in 0..levels_above_leaves {
         let pointers = Index::records(&sound.nodes[number]);
-        let record = halve(pointers, asked).reached?;
-        number = child(&pointers[record]) as usize;
+        let record = halve::<Index>(pointers, asked).reached?;
+        number = child::<Hfs>(&pointers[record]) as usize;
     }
-    let record = find_in_leaf(&sound.nodes[number], asked)?;
-    Some(range_in_image(number, leaf_data(record)).start)
+    let record = Hfs::find(Leaf::records(&sound.nodes[number]), asked)?;
+    Some(range_in_image::<NODE_SIZE>(number, leaf_data::<Hfs>(record)).start)
 }

@@ -1,7 +1,9 @@
 //! Tests 3 and 9: the chain of map nodes and the bits it carries.
 
+use crate::edition::Edition;
+use crate::header;
 use crate::node::{
-    back_link, forward_link, kind, level, record_count, reserved, Node, MAP_KIND, NODE_SIZE,
+    back_link, ends_in, forward_link, kind, level, record_count, reserved, Node, MAP_KIND,
     RECORDS_AT,
 };
 use crate::node_set::NodeSet;
@@ -10,32 +12,35 @@ use crate::verdict::{require, Verdict, MAP_BITS, MAP_CHAIN};
 use std::iter;
 use std::ops::Range;
 
-const HEADER_MAP: Range<usize> = 0xF8..0x1F8;
-const NODE_MAP: Range<usize> = RECORDS_AT..0x1FC;
-const OFFSET_WORDS: [u8; 4] = [0x01, 0xFC, 0x00, 0x0E];
-
 /// Test 3: follows the chain from the header and adds its nodes to those met.
-pub fn follow_chain(nodes: &[Node], met: &mut NodeSet) -> Result<(), Verdict> {
-    let mut map_bytes = HEADER_MAP.len();
+pub fn follow_chain<E: Edition, const N: usize>(
+    nodes: &[Node<N>],
+    met: &mut NodeSet,
+) -> Result<(), Verdict> {
+    let mut map_bytes = header::map_record::<N>().len();
     let mut last = 0;
     met.insert(0);
     while let Some(next) = next_in_chain(nodes, last) {
         let new = (next as usize) < nodes.len() && met.insert(next);
         require(new, MAP_CHAIN, Place::of_node(last))?;
-        require(is_map_node(&nodes[next as usize]), MAP_CHAIN, Place::of_node(next))?;
-        map_bytes += NODE_MAP.len();
+        require(is_map_node::<E, N>(&nodes[next as usize]), MAP_CHAIN, Place::of_node(next))?;
+        map_bytes += map_record::<E, N>().len();
         last = next;
     }
     require(8 * map_bytes >= nodes.len(), MAP_CHAIN, Place::of_node(last))
 }
 
 /// Test 9: every bit of a chain that has passed test 3 is set exactly when its node was met.
-pub fn compare_bits(nodes: &[Node], met: &NodeSet) -> Result<(), Verdict> {
+pub fn compare_bits<E: Edition, const N: usize>(
+    nodes: &[Node<N>],
+    met: &NodeSet,
+) -> Result<(), Verdict> {
     let first = next_in_chain(nodes, 0);
     let map_nodes = iter::successors(first, |&number| next_in_chain(nodes, number));
-    let map_records = iter::once((0, HEADER_MAP)).chain(map_nodes.map(|number| (number, NODE_MAP)));
+    let in_header = (0, header::map_record::<N>());
+    let in_map_nodes = map_nodes.map(|number| (number, map_record::<E, N>()));
     let mut met = met.bytes();
-    for (number, record) in map_records {
+    for (number, record) in iter::once(in_header).chain(in_map_nodes) {
         let start = record.start;
         let bytes = &nodes[number as usize][record];
         let (expected, later) = met.split_at(bytes.len().min(met.len()));
@@ -57,16 +62,22 @@ fn first_wrong(bytes: &[u8], expected: &[u8]) -> Option<usize> {
     beyond.iter().position(|&byte| byte != 0).map(|wrong| expected.len() + wrong)
 }
 
-fn next_in_chain(nodes: &[Node], number: u32) -> Option<u32> {
+fn next_in_chain<const N: usize>(nodes: &[Node<N>], number: u32) -> Option<u32> {
     let next = forward_link(&nodes[number as usize]);
     (next != 0).then_some(next)
 }
 
-fn is_map_node(node: &Node) -> bool {
+/// Where the record of a map node stands in it.
+fn map_record<E: Edition, const N: usize>() -> Range<usize> {
+    RECORDS_AT..N - E::AFTER_MAP_RECORD
+}
+
+fn is_map_node<E: Edition, const N: usize>(node: &Node<N>) -> bool {
+    let starts = [map_record::<E, N>().end, RECORDS_AT];
     back_link(node) == 0
         && kind(node) == MAP_KIND
         && level(node) == 0
         && record_count(node) == 1
         && reserved(node) == 0
-        && node[NODE_SIZE - OFFSET_WORDS.len()..] == OFFSET_WORDS
+        && ends_in(node, starts.map(|start| start as u16))
 }

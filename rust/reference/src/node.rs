@@ -2,7 +2,6 @@
 
 use std::ops::Range;
 
-pub const NODE_SIZE: usize = 512;
 pub const MOST_NODES: usize = 65_536;
 pub const FORWARD_LINK_AT: usize = 0;
 pub const BACK_LINK_AT: usize = 4;
@@ -11,47 +10,53 @@ pub const RECORDS_AT: usize = 14;
 pub const HEADER_KIND: u8 = 0x01;
 pub const MAP_KIND: u8 = 0x02;
 
-pub type Node = [u8; NODE_SIZE];
+pub type Node<const N: usize> = [u8; N];
 
 /// The whole nodes of an image; a broken last node is left out.
-pub fn whole_nodes(image: &[u8]) -> &[Node] {
+pub fn whole_nodes<const N: usize>(image: &[u8]) -> &[Node<N>] {
     image.as_chunks().0
 }
 
-pub fn be16(node: &Node, at: usize) -> u16 {
-    u16::from_be_bytes([node[at], node[at + 1]])
+pub fn be16(bytes: &[u8], at: usize) -> u16 {
+    u16::from_be_bytes([bytes[at], bytes[at + 1]])
 }
 
-pub fn be32(node: &Node, at: usize) -> u32 {
-    u32::from_be_bytes([node[at], node[at + 1], node[at + 2], node[at + 3]])
+pub fn be32(bytes: &[u8], at: usize) -> u32 {
+    u32::from_be_bytes([bytes[at], bytes[at + 1], bytes[at + 2], bytes[at + 3]])
 }
 
-pub fn forward_link(node: &Node) -> u32 {
+pub fn forward_link<const N: usize>(node: &Node<N>) -> u32 {
     be32(node, FORWARD_LINK_AT)
 }
 
-pub fn back_link(node: &Node) -> u32 {
+pub fn back_link<const N: usize>(node: &Node<N>) -> u32 {
     be32(node, BACK_LINK_AT)
 }
 
-pub fn kind(node: &Node) -> u8 {
+pub fn kind<const N: usize>(node: &Node<N>) -> u8 {
     node[8]
 }
 
-pub fn level(node: &Node) -> u8 {
+pub fn level<const N: usize>(node: &Node<N>) -> u8 {
     node[9]
 }
 
-pub fn record_count(node: &Node) -> usize {
+pub fn record_count<const N: usize>(node: &Node<N>) -> usize {
     usize::from(be16(node, 10))
 }
 
-pub fn reserved(node: &Node) -> u16 {
+pub fn reserved<const N: usize>(node: &Node<N>) -> u16 {
     be16(node, 12)
 }
 
+/// Whether the node ends in these offset words, the first record's last.
+pub fn ends_in<const N: usize, const WORDS: usize>(node: &Node<N>, words: [u16; WORDS]) -> bool {
+    let (_, ends) = node.as_rchunks::<2>();
+    ends[ends.len() - WORDS..].iter().zip(words).all(|(end, word)| u16::from_be_bytes(*end) == word)
+}
+
 /// Turns a range within a node into the range of the same bytes within the image.
-pub fn range_in_image(number: usize, within: Range<usize>) -> Range<usize> {
-    let base = number * NODE_SIZE;
+pub fn range_in_image<const N: usize>(number: usize, within: Range<usize>) -> Range<usize> {
+    let base = number * N;
     base + within.start..base + within.end
 }

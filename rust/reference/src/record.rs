@@ -1,32 +1,43 @@
 //! How leaf and index nodes lay out their keyed records.
 
-use crate::key::{is_lawful_fork, packed_key_bytes, Key, KEY_LENGTH, KEY_SIZE};
-use crate::node::{kind, level, record_count, reserved, Node, RECORDS_AT};
+use crate::edition::{Edition, IndexBytes, PackedKey};
+use crate::node::{be32, kind, level, record_count, reserved, Node, RECORDS_AT};
 use crate::place::Place;
 use crate::position::Position;
 use crate::verdict::{require, Verdict, KEY_ORDER, NODE_FORM};
+use std::marker::PhantomData;
 use std::ops::Range;
 
-/// Nodes with keyed records: their kind, the size of a record and the most records they hold.
-pub struct Keyed<const KIND: u8, const SIZE: usize, const MOST: usize>;
+pub const INDEX_KIND: u8 = 0x00;
+pub const LEAF_KIND: u8 = 0xFF;
 
-pub type Leaf = Keyed<0xFF, 20, 22>;
-pub type Index = Keyed<0x00, 12, 35>;
+/// Nodes of one kind in an edition, with keyed records of one size.
+pub trait Keyed: Sized {
+    type Edition: Edition;
+    type Record: AsRef<[u8]>;
 
-pub type LeafBytes = [u8; 20];
-pub type IndexBytes = [u8; 12];
+    const KIND: u8;
+    const SIZE: usize;
 
-pub const LEAF_DATA_SIZE: usize = 12;
+    /// As many whole records as the bytes have room for.
+    fn side_by_side(bytes: &[u8]) -> &[Self::Record];
 
-impl<const KIND: u8, const SIZE: usize, const MOST: usize> Keyed<KIND, SIZE, MOST> {
+    fn packed_key(record: &Self::Record) -> Packed<Self>;
+
+    fn has_lawful_key(record: &Self::Record) -> bool;
+
     /// The records side by side; no more than a node can hold, whatever its count says.
-    pub fn records(node: &Node) -> &[[u8; SIZE]] {
-        let (records, _) = node[RECORDS_AT..].as_chunks();
-        &records[..record_count(node).min(MOST)]
+    fn records<const N: usize>(node: &Node<N>) -> &[Self::Record] {
+        let most = const { most_records(N, Self::SIZE) };
+        &Self::side_by_side(&node[RECORDS_AT..])[..record_count(node).min(most)]
     }
 
     /// Tests 5 and 6 of a node that belongs in the given position.
-    pub fn test(node: &Node, number: u32, position: &Position) -> Result<(), Verdict> {
+    fn test<const N: usize>(
+        node: &Node<N>,
+        number: u32,
+        position: &Position<Packed<Self>>,
+    ) -> Result<(), Verdict> {
         let right_level = usize::from(level(node)) == position.level;
         let right_form = right_level && Self::is_well_formed(node);
         require(right_form, NODE_FORM, Place::of_node(number))?;
@@ -40,21 +51,25 @@ impl<const KIND: u8, const SIZE: usize, const MOST: usize> Keyed<KIND, SIZE, MOS
     }
 
     /// Where a record starts within its node.
-    pub fn start(record: usize) -> usize {
-        RECORDS_AT + record * SIZE
+    fn start(record: usize) -> usize {
+        RECORDS_AT + record * Self::SIZE
     }
 
     /// Test 5 without the level, which a salvaged node need not keep.
-    pub fn is_well_formed(node: &Node) -> bool {
-        kind(node) == KIND
+    fn is_well_formed<const N: usize>(node: &Node<N>) -> bool {
+        let most = const { most_records(N, Self::SIZE) };
+        kind(node) == Self::KIND
             && reserved(node) == 0
-            && (1..=MOST).contains(&record_count(node))
+            && (1..=most).contains(&record_count(node))
             && Self::has_right_offsets(node)
-            && Self::records(node).iter().all(has_lawful_key)
+            && Self::records(node).iter().all(Self::has_lawful_key)
     }
 
     /// Test 6: the first record whose key breaks any of the rules for keys.
-    fn first_misplaced(node: &Node, position: &Position) -> Option<usize> {
+    fn first_misplaced<const N: usize>(
+        node: &Node<N>,
+        position: &Position<Packed<Self>>,
+    ) -> Option<usize> {
         if Self::matches_pointer(node, position.pointer_key) {
             Self::first_out_of_order(node, &position.bounds)
         } else {
@@ -64,24 +79,27 @@ impl<const KIND: u8, const SIZE: usize, const MOST: usize> Keyed<KIND, SIZE, MOS
     }
 
     /// The first record whose key is not above the one before it or not within the bounds.
-    pub fn first_out_of_order(node: &Node, bounds: &Range<u64>) -> Option<usize> {
+    fn first_out_of_order<const N: usize>(
+        node: &Node<N>,
+        bounds: &Range<Packed<Self>>,
+    ) -> Option<usize> {
         let mut lowest = bounds.start;
         Self::records(node).iter().position(|record| {
-            let key = packed_key(record);
+            let key = Self::packed_key(record);
             let fits = lowest <= key && key < bounds.end;
-            lowest = key + 1;
+            lowest = key.next();
             !fits
         })
     }
 
     /// The first key equals the key of the pointer, where a pointer leads to the node.
-    fn matches_pointer(node: &Node, pointer_key: Option<u64>) -> bool {
-        let first_key = Self::records(node).first().map(packed_key);
+    fn matches_pointer<const N: usize>(node: &Node<N>, pointer_key: Option<Packed<Self>>) -> bool {
+        let first_key = Self::records(node).first().map(Self::packed_key);
         pointer_key.is_none() || pointer_key == first_key
     }
 
     /// One offset more than records, as words from the end of the node backwards.
-    fn has_right_offsets(node: &Node) -> bool {
+    fn has_right_offsets<const N: usize>(node: &Node<N>) -> bool {
         let words = node.rchunks_exact(2).map(|word| u16::from_be_bytes([word[0], word[1]]));
         words
             .enumerate()
@@ -90,41 +108,51 @@ impl<const KIND: u8, const SIZE: usize, const MOST: usize> Keyed<KIND, SIZE, MOS
     }
 }
 
-pub fn key<const SIZE: usize>(record: &[u8; SIZE]) -> Key {
-    Key {
-        file: u32::from_be_bytes([record[2], record[3], record[4], record[5]]),
-        fork: record[1],
-        start: u16::from_be_bytes([record[6], record[7]]),
+pub type Packed<K> = <<K as Keyed>::Edition as Edition>::Packed;
+
+/// Records of `SIZE` bytes, each with a key first.
+pub struct Records<E, const KIND: u8, const SIZE: usize>(PhantomData<E>);
+
+impl<E: Edition, const KIND: u8, const SIZE: usize> Keyed for Records<E, KIND, SIZE> {
+    type Edition = E;
+    type Record = [u8; SIZE];
+
+    const KIND: u8 = KIND;
+    const SIZE: usize = SIZE;
+
+    fn side_by_side(bytes: &[u8]) -> &[[u8; SIZE]] {
+        bytes.as_chunks().0
+    }
+
+    fn packed_key(record: &[u8; SIZE]) -> E::Packed {
+        E::packed_key(record)
+    }
+
+    fn has_lawful_key(record: &[u8; SIZE]) -> bool {
+        E::has_lawful_key(record)
     }
 }
 
-pub fn packed_key<const SIZE: usize>(record: &[u8; SIZE]) -> u64 {
-    key(record).packed()
+/// As many records as fit in a node before their offset words, of which there is one more.
+const fn most_records(node_size: usize, record_size: usize) -> usize {
+    let mut count = 0;
+    while RECORDS_AT + (count + 1) * record_size + 2 * (count + 2) <= node_size {
+        count += 1;
+    }
+    count
 }
 
 /// The child that an index record points to.
-pub fn child(record: &IndexBytes) -> u32 {
-    u32::from_be_bytes([record[8], record[9], record[10], record[11]])
+pub fn child<E: Edition>(record: &IndexBytes<E>) -> u32 {
+    be32(record.as_ref(), E::KEY_SIZE)
 }
 
 /// Where the child's number of an index record stands within the node.
-pub fn child_at(record: usize) -> usize {
-    Index::start(record) + KEY_SIZE
-}
-
-/// The record of a well-formed leaf with ascending keys that has the asked key.
-pub fn find_in_leaf(node: &Node, asked: u64) -> Option<usize> {
-    // Among so few records, comparing the bytes of each key is faster than halving by key order.
-    let asked = packed_key_bytes(asked);
-    Leaf::records(node).iter().position(|record| record[..KEY_SIZE] == asked)
+pub fn child_at<E: Edition>(record: usize) -> usize {
+    E::Index::start(record) + E::KEY_SIZE
 }
 
 /// Where the data of a leaf record stand within the node.
-pub fn leaf_data(record: usize) -> Range<usize> {
-    let start = Leaf::start(record) + KEY_SIZE;
-    start..start + LEAF_DATA_SIZE
-}
-
-fn has_lawful_key<const SIZE: usize>(record: &[u8; SIZE]) -> bool {
-    record[0] == KEY_LENGTH && is_lawful_fork(record[1])
+pub fn leaf_data<E: Edition>(record: usize) -> Range<usize> {
+    E::Leaf::start(record) + E::KEY_SIZE..E::Leaf::start(record + 1)
 }

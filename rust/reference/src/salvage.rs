@@ -1,9 +1,10 @@
 //! What can be salvaged under a key from an image of any state.
 
-use crate::key::{is_lawful_fork, Key};
-use crate::node::{range_in_image, whole_nodes, Node, MOST_NODES, NODE_SIZE};
+use crate::edition::{Edition, PackedKey};
+use crate::key::is_lawful_fork;
+use crate::node::{range_in_image, whole_nodes, Node, MOST_NODES};
 use crate::place::Place;
-use crate::record::{find_in_leaf, leaf_data, Leaf};
+use crate::record::{leaf_data, Keyed};
 use crate::verdict::{ASKED_FORK, LENGTH};
 use std::ops::Range;
 
@@ -19,45 +20,56 @@ pub enum SalvageAnswer {
 #[derive(Clone, Debug, PartialEq, Eq)]
 pub struct Salvage {
     pub answer: SalvageAnswer,
-    /// The 12 data bytes of a seen record.
+    /// The data bytes of a seen record: 12 in HFS, 64 in HFS Plus.
     pub data: Option<Range<usize>>,
 }
 
+const NOT_SEEN: Salvage = Salvage { answer: SalvageAnswer::NotSeen, data: None };
+
 /// Finds the first record with the key in any node from 1 up that looks like a leaf.
-pub fn salvage(image: &[u8], file: u32, fork: u8, start: u16) -> Salvage {
+pub fn salvage<E: Edition, const N: usize>(
+    image: &[u8],
+    file: u32,
+    fork: u8,
+    start: u32,
+) -> Salvage {
     if !is_lawful_fork(fork) {
         return refused(ASKED_FORK);
     }
-    if image.len() > MOST_NODES * NODE_SIZE {
+    if image.len() > MOST_NODES * N {
         return refused(LENGTH);
     }
-    let asked = Key { file, fork, start }.packed();
-    for (number, node) in whole_nodes(image).iter().enumerate().skip(1) {
-        if let Some(record) = find_in_any(node, asked) {
-            return seen(number, record);
+    let asked = E::ask(file, fork, start);
+    if !asked.is_exact {
+        return NOT_SEEN;
+    }
+    for (number, node) in whole_nodes::<N>(image).iter().enumerate().skip(1) {
+        if let Some(record) = find_in_any::<E, N>(node, asked.nearest) {
+            return seen::<E, N>(number, record);
         }
     }
-    Salvage { answer: SalvageAnswer::NotSeen, data: None }
+    NOT_SEEN
 }
 
-fn find_in_any(node: &Node, asked: u64) -> Option<usize> {
+fn find_in_any<E: Edition, const N: usize>(node: &Node<N>, asked: E::Packed) -> Option<usize> {
+    let all_keys = E::Packed::LOWEST..E::Packed::UNBOUNDED;
     let counts =
-        Leaf::is_well_formed(node) && Leaf::first_out_of_order(node, &(0..u64::MAX)).is_none();
+        E::Leaf::is_well_formed(node) && E::Leaf::first_out_of_order(node, &all_keys).is_none();
     if counts {
-        find_in_leaf(node, asked)
+        E::find(E::Leaf::records(node), asked)
     } else {
         None
     }
 }
 
-fn seen(number: usize, record: usize) -> Salvage {
-    let place = Place::in_node(number as u32, Leaf::start(record));
+fn seen<E: Edition, const N: usize>(number: usize, record: usize) -> Salvage {
+    let place = Place::in_node(number as u32, E::Leaf::start(record));
     Salvage {
         answer: SalvageAnswer::Seen { place },
-        data: Some(range_in_image(number, leaf_data(record))),
+        data: Some(range_in_image::<N>(number, leaf_data::<E>(record))),
     }
 }
 
-fn refused(number: u32) -> Salvage {
+pub fn refused(number: u32) -> Salvage {
     Salvage { answer: SalvageAnswer::Refused { number, place: Place::START }, data: None }
 }

@@ -1,15 +1,14 @@
 //! Tests 4 to 7: the walk over the tree.
 
+use crate::edition::{Edition, PackedKey};
 use crate::header::{Header, ROOT_AT};
 use crate::node::{back_link, forward_link, record_count, Node, BACK_LINK_AT, FORWARD_LINK_AT};
 use crate::node_set::NodeSet;
 use crate::place::Place;
 use crate::position::Position;
-use crate::record::{child, child_at, packed_key, Index, Leaf};
+use crate::record::{child, child_at, Keyed};
 use crate::verdict::{require, Verdict, CHILD, LINKS};
-
-/// No packed key reaches this, so it stands for "no bound above".
-const UNBOUNDED: u64 = u64::MAX;
+use std::marker::PhantomData;
 
 /// Levels count from the leaves up, so the root's level is the depth.
 const LEAF_LEVEL: usize = 1;
@@ -21,8 +20,9 @@ pub struct LeafTotals {
     pub last: u32,
 }
 
-struct Walk<'a, 'work> {
-    nodes: &'a [Node],
+struct Walk<'a, 'work, E, const N: usize> {
+    edition: PhantomData<E>,
+    nodes: &'a [Node<N>],
     depth: usize,
     met: &'a mut NodeSet<'work>,
     /// The node met last on each level, 0 for none; the levels count from 1.
@@ -32,13 +32,25 @@ struct Walk<'a, 'work> {
 }
 
 /// Walks a tree whose header has passed test 2 and adds its nodes to those met.
-pub fn walk(nodes: &[Node], header: &Header, met: &mut NodeSet) -> Result<LeafTotals, Verdict> {
-    let mut walk =
-        Walk { nodes, depth: header.depth, met, last_met: [0; 9], first_leaf: 0, leaf_records: 0 };
+pub fn walk<E: Edition, const N: usize>(
+    nodes: &[Node<N>],
+    header: &Header,
+    met: &mut NodeSet,
+) -> Result<LeafTotals, Verdict> {
+    let mut walk = Walk::<E, N> {
+        edition: PhantomData,
+        nodes,
+        depth: header.depth,
+        met,
+        last_met: [0; 9],
+        first_leaf: 0,
+        leaf_records: 0,
+    };
     if header.depth > 0 {
         let level = header.depth;
         let named_at = Place::in_node(0, ROOT_AT);
-        let root = Position { named_at, level, pointer_key: None, bounds: 0..UNBOUNDED };
+        let bounds = E::Packed::LOWEST..E::Packed::UNBOUNDED;
+        let root = Position { named_at, level, pointer_key: None, bounds };
         walk.visit(header.root, &root)?;
         walk.test_level_ends()?;
     }
@@ -49,8 +61,8 @@ pub fn walk(nodes: &[Node], header: &Header, met: &mut NodeSet) -> Result<LeafTo
     })
 }
 
-impl Walk<'_, '_> {
-    fn visit(&mut self, number: u32, position: &Position) -> Result<(), Verdict> {
+impl<E: Edition, const N: usize> Walk<'_, '_, E, N> {
+    fn visit(&mut self, number: u32, position: &Position<E::Packed>) -> Result<(), Verdict> {
         // Node 0 and the map chain have been met before the tree, so they fall out here too.
         let new = (number as usize) < self.nodes.len() && self.met.insert(number);
         require(new, CHILD, position.named_at)?;
@@ -58,9 +70,9 @@ impl Walk<'_, '_> {
         let node = &self.nodes[number as usize];
         let is_leaf = position.level == LEAF_LEVEL;
         if is_leaf {
-            Leaf::test(node, number, position)?;
+            E::Leaf::test(node, number, position)?;
         } else {
-            Index::test(node, number, position)?;
+            E::Index::test(node, number, position)?;
         }
         self.test_links(number, position.level)?;
 
@@ -73,15 +85,19 @@ impl Walk<'_, '_> {
     }
 
     /// Each child lies between its pointer key and the next, or the bound from above.
-    fn visit_children(&mut self, parent: u32, position: &Position) -> Result<(), Verdict> {
-        let records = Index::records(&self.nodes[parent as usize]);
+    fn visit_children(
+        &mut self,
+        parent: u32,
+        position: &Position<E::Packed>,
+    ) -> Result<(), Verdict> {
+        let records = E::Index::records(&self.nodes[parent as usize]);
         let level = position.level - 1;
         for (index, record) in records.iter().enumerate() {
-            let low = packed_key(record);
-            let high = records.get(index + 1).map_or(position.bounds.end, packed_key);
-            let named_at = Place::in_node(parent, child_at(index));
+            let low = E::Index::packed_key(record);
+            let high = records.get(index + 1).map_or(position.bounds.end, E::Index::packed_key);
+            let named_at = Place::in_node(parent, child_at::<E>(index));
             let position = Position { named_at, level, pointer_key: Some(low), bounds: low..high };
-            self.visit(child(record), &position)?;
+            self.visit(child::<E>(record), &position)?;
         }
         Ok(())
     }

@@ -15,6 +15,7 @@ pub const FREE_COUNT: u32 = 10;
 pub const ASKED_FORK: u32 = 11;
 pub const RESULT_ROW: u32 = 15;
 pub const WORKING_BYTES: u32 = 16;
+pub const FORMAT: u32 = 25;
 
 /// What a check or a call for many keys answers: a number and the place that belongs to it.
 #[derive(Clone, Copy, Debug, PartialEq, Eq)]

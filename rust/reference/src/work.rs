@@ -1,15 +1,20 @@
 //! Test 16: which of the lent working bytes a check needs.
 
-use crate::node::NODE_SIZE;
+use crate::hfs::NODE_SIZE;
 use crate::place::Place;
 use crate::verdict::{Verdict, WORKING_BYTES};
 
 /// How many working bytes a check or a lookup in an image of this length needs: one bit a node.
 pub const fn needed_work(image_len: usize) -> usize {
-    (image_len / NODE_SIZE).div_ceil(8)
+    bytes_for(image_len / NODE_SIZE)
+}
+
+/// How many bytes have a bit for each of so many nodes.
+pub const fn bytes_for(node_count: usize) -> usize {
+    node_count.div_ceil(8)
 }
 
 /// The needed bytes at the start of the lent ones, if enough are lent.
-pub fn needed_part(work: &mut [u8], image_len: usize) -> Result<&mut [u8], Verdict> {
-    work.get_mut(..needed_work(image_len)).ok_or(Verdict::new(WORKING_BYTES, Place::START))
+pub fn needed_part(work: &mut [u8], node_count: usize) -> Result<&mut [u8], Verdict> {
+    work.get_mut(..bytes_for(node_count)).ok_or(Verdict::new(WORKING_BYTES, Place::START))
 }

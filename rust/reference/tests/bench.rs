@@ -199,14 +199,14 @@ fn the_first_key_of_a_root_is_free() {
     let keys = [(0, 0x00, 0), (0, 0x00, 1), (16, 0x00, 4), (u32::MAX, 0xFF, u16::MAX)];
     for (file, fork, start) in keys {
         let mut image = l1();
-        image[526..534].copy_from_slice(&images::Key::new(file, fork, start).bytes());
+        image[526..534].copy_from_slice(&images::Key::new(file, fork, start.into()).bytes());
         assert_eq!(check(&image), verdict(0, 0, 0));
         let found = lookup(&image, file, fork, start).answer;
         assert_eq!(found, found_at(1, 14));
     }
     // As the first key of a root over leaves, and so of leaf 2 as well.
     for (file, fork, start) in [(0, 0x00, 0), (0, 0x00, 1), (16, 0x00, 4)] {
-        let key = images::Key::new(file, fork, start);
+        let key = images::Key::new(file, fork, u32::from(start));
         let mut image = two_leaves_with_pointer(0, key);
         image[1038..1046].copy_from_slice(&key.bytes());
         assert_eq!(check(&image), verdict(0, 0, 0));

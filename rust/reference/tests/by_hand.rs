@@ -174,7 +174,7 @@ fn bounds_above() {
     gives(&[leaf_key(5, 1, file_key(50))], 6, 5, 34);
     gives(&[leaf_key(5, 1, file_key(55))], 6, 5, 34);
     // Nothing bounds the last leaf from above.
-    sound(&[leaf_key(7, 1, Key::new(u32::MAX, 0xFF, u16::MAX))]);
+    sound(&[leaf_key(7, 1, Key::new(u32::MAX, 0xFF, 65_535))]);
     // Pointers are bound as well; leaf 5 starts with its pointer.
     let moved = |first| {
         [
@@ -206,7 +206,7 @@ fn bounds_below() {
 /// The pointer's key is its child's first key, of this file; other files, the nearest keys and the
 /// other fork are faults of the child.
 fn pointer_must_match(parent: usize, record: usize, first: u32, others: &[u32], child: u32) {
-    let nearest = [Key::new(first - 1, 0xFF, u16::MAX), Key::new(first, 0x00, 1)];
+    let nearest = [Key::new(first - 1, 0xFF, 65_535), Key::new(first, 0x00, 1)];
     let other_fork = [Key::new(first, 0xFF, 0)];
     let others = others.iter().map(|&file| file_key(file));
     for key in others.chain(nearest).chain(other_fork) {

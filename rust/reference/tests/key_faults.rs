@@ -4,7 +4,7 @@ mod lent;
 
 use images::bench::{index_with, leaf_with};
 use images::node::*;
-use images::Key;
+use images::{Format, Key};
 use lent::check;
 use reference::{Place, Verdict};
 
@@ -26,15 +26,16 @@ fn two_full_leaves() -> Vec<u8> {
         total: 4,
         ..HeaderFields::default()
     };
-    let record = |file| Record { key: file_key(file), data: [0; 12] };
+    let record = |file| Record { key: file_key(file), data: vec![0; 12] };
     let from = |first: u32| (0..22).map(|index| record(first + 2 * index)).collect::<Vec<_>>();
     let pointers = [(100, 2), (200, 3)].map(|(file, child)| Pointer { key: file_key(file), child });
-    let mut nodes = [[0; NODE_SIZE]; 4];
-    write_header(&mut nodes[0], &fields);
+    let mut nodes = [[0; 512]; 4];
+    write_header(Format::HFS, &mut nodes[0], &fields);
     nodes[0][HEADER_MAP_AT] = 0b1111_0000;
-    write_index(&mut nodes[1], Descriptor { forward: 0, back: 0, level: 2 }, &pointers);
-    write_leaf(&mut nodes[2], Descriptor { forward: 3, back: 0, level: 1 }, &from(100));
-    write_leaf(&mut nodes[3], Descriptor { forward: 0, back: 2, level: 1 }, &from(200));
+    let descriptor = |forward, back, level| Descriptor { forward, back, level };
+    write_index(Format::HFS, &mut nodes[1], descriptor(0, 0, 2), &pointers);
+    write_leaf(Format::HFS, &mut nodes[2], descriptor(3, 0, 1), &from(100));
+    write_leaf(Format::HFS, &mut nodes[3], descriptor(0, 2, 1), &from(200));
     nodes.concat()
 }
 

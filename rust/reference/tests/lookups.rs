@@ -15,7 +15,7 @@ fn word(image: &[u8], at: usize) -> u32 {
 }
 
 fn key_at(image: &[u8], at: usize) -> Key {
-    Key::new(long(image, at + 2), image[at + 1], word(image, at + 6) as u16)
+    Key::new(long(image, at + 2), image[at + 1], word(image, at + 6))
 }
 
 fn record_at(image: &[u8], node: usize, record: usize) -> usize {
@@ -75,7 +75,7 @@ fn expected(image: &[u8], list: &[LeafRecord], asked: Key) -> Lookup {
     let mut path = [0; 8];
     path[..scanned.len()].copy_from_slice(&scanned);
     let has_key = |record: &&LeafRecord| {
-        (record.key.file, record.key.fork, record.key.start)
+        (record.key.file, record.key.fork, u32::from(record.key.start))
             == (asked.file, asked.fork, asked.start)
     };
     let found = list.iter().find(has_key);
@@ -94,7 +94,7 @@ fn expected(image: &[u8], list: &[LeafRecord], asked: Key) -> Lookup {
 }
 
 fn assert_right(image: &[u8], list: &[LeafRecord], asked: Key) {
-    let got = lookup(image, asked.file, asked.fork, asked.start);
+    let got = lookup(image, asked.file, asked.fork, asked.start as u16);
     assert_eq!(got, expected(image, list, asked), "{asked:?}");
     if let (Answer::Found { place }, Some(data)) = (got.answer, got.data) {
         let stands_there = |listed: &&LeafRecord| {
@@ -107,7 +107,7 @@ fn assert_right(image: &[u8], list: &[LeafRecord], asked: Key) {
 }
 
 fn assert_few_compared(image: &[u8], asked: Key) {
-    let got = lookup(image, asked.file, asked.fork, asked.start);
+    let got = lookup(image, asked.file, asked.fork, asked.start as u16);
     let path = &got.path[..got.path_len];
     assert!(got.compared <= 6 * path.len() as u32, "{asked:?}");
     let mut compared_in_all = 0;
@@ -121,7 +121,7 @@ fn assert_few_compared(image: &[u8], asked: Key) {
 
 /// Every leaf key, pointer keys among them, its lawful neighbours and the ends of the range.
 fn keys_worth_asking(built: &Built) -> Vec<Key> {
-    let mut asked = vec![Key::new(0, 0x00, 0), Key::new(u32::MAX, 0xFF, u16::MAX)];
+    let mut asked = vec![Key::new(0, 0x00, 0), Key::new(u32::MAX, 0xFF, 65_535)];
     for &Record { key, .. } in &built.records {
         let rank = key.rank();
         asked.extend([key, Key::from_rank(rank + 1), Key::from_rank(rank.saturating_sub(1))]);

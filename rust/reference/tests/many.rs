@@ -85,7 +85,7 @@ fn the_lowest_and_the_highest_key() {
     let keys = [0, GOOD, TWO_TO_THE_56 - 1, TWO_TO_THE_56, u64::MAX];
     let lowest = with_key(Key::new(0, 0x00, 0));
     assert_eq!(results_for(&lowest, &keys), [GOOD_AT, 0, 0, 1, 1]);
-    let highest = with_key(Key::new(u32::MAX, 0xFF, u16::MAX));
+    let highest = with_key(Key::new(u32::MAX, 0xFF, 65_535));
     assert_eq!(results_for(&highest, &keys), [0, 0, GOOD_AT, 1, 1]);
 }
 
@@ -179,8 +179,9 @@ fn as_single_lookups_in_the_largest() {
 /// Every key of the list is found where the list has it, and no key that it has not.
 fn assert_as_listed(built: &Built) {
     let list = leaf_records(&built.image);
-    let of_list =
-        |listed: &LeafRecord| packed(Key::new(listed.key.file, listed.key.fork, listed.key.start));
+    let of_list = |LeafRecord { key, .. }: &LeafRecord| {
+        packed(Key::new(key.file, key.fork, key.start.into()))
+    };
     let keys: Vec<u64> = list.iter().map(of_list).collect();
     assert_eq!(keys, built.records.iter().map(|record| packed(record.key)).collect::<Vec<_>>());
     let results = results_for(&built.image, &keys);
@@ -188,7 +189,7 @@ fn assert_as_listed(built: &Built) {
     for ((&result, listed), record) in results.iter().zip(&list).zip(&built.records) {
         let start = result as usize;
         assert_eq!(built.image[start..start + 12], listed.data);
-        assert_eq!(listed.data, record.data);
+        assert_eq!(listed.data[..], record.data);
     }
     let after = |record: &images::Record| packed(Key::from_rank(record.key.rank() + 1));
     let mut gaps: Vec<u64> = built.records.iter().map(after).collect();

@@ -3,7 +3,8 @@
 mod lent;
 
 use images::bench::empty_tree;
-use images::node::{put32, put_node, write_map, NODE_SIZE};
+use images::node::{put32, put_node, write_map};
+use images::Format;
 use lent::check;
 use reference::{Place, Verdict};
 
@@ -16,8 +17,8 @@ fn with_chain(total: u32, chain: &[u32]) -> Vec<u8> {
     put32(&mut image, 0, chain[0]);
     put32(&mut image, 40, total - 1 - chain.len() as u32);
     for (index, &number) in chain.iter().enumerate() {
-        let mut node = [0; NODE_SIZE];
-        write_map(&mut node, chain.get(index + 1).copied().unwrap_or(0));
+        let mut node = [0; 512];
+        write_map(Format::HFS, &mut node, chain.get(index + 1).copied().unwrap_or(0));
         put_node(&mut image, number, &node);
     }
     image

@@ -1,11 +1,10 @@
 //! Two faults at once: the answer is the one that the order of tests comes to first.
 
-mod lent;
+mod formats;
 
+use formats::{check, verdict};
 use images::spoil::{spoilings, Spoiling};
-use images::{build, Built, Plan};
-use lent::check;
-use reference::{Place, Verdict};
+use images::{build, Built, Format, Plan};
 
 /// Whether the second fault leaves the first one standing.
 fn independent(a: &Spoiling, b: &Spoiling) -> bool {
@@ -22,7 +21,12 @@ fn of_form(spoiling: &Spoiling, field: &str) -> bool {
 }
 
 fn assert_first_fault_wins(built: &Built) -> usize {
-    let known = spoilings(built);
+    assert_first_of_some_wins(built, 1)
+}
+
+/// Takes every so many faults, as there are many pairs of them.
+fn assert_first_of_some_wins(built: &Built, step: usize) -> usize {
+    let known: Vec<Spoiling> = spoilings(built).into_iter().step_by(step).collect();
     let mut pairs = 0;
     for (index, a) in known.iter().enumerate() {
         for b in &known[index + 1..] {
@@ -41,17 +45,21 @@ fn assert_earlier_wins(built: &Built, a: &Spoiling, b: &Spoiling) {
     // A wrong length is the earliest fault, so the image is cut after all other changes.
     later.apply(&mut image);
     earlier.apply(&mut image);
-    let place = Place { node: earlier.place.node, offset: earlier.place.offset };
-    let expected = Verdict { number: earlier.number, place };
-    assert_eq!(check(&image), expected, "{} and {}", earlier.name(), later.name());
+    let expected = verdict(earlier.number, earlier.place.node, earlier.place.offset);
+    let names = format!("{} and {}", earlier.name(), later.name());
+    assert_eq!(check(built.format, &image), expected, "{names}");
 }
 
 fn small(seed: u64, level_sizes: &[usize], map_nodes: usize) -> Built {
+    small_in(Format::HFS, seed, level_sizes, map_nodes)
+}
+
+fn small_in(format: Format, seed: u64, level_sizes: &[usize], map_nodes: usize) -> Built {
     build(&Plan {
         records_per_leaf: 1..=3,
         map_nodes,
         free_nodes: 3,
-        ..Plan::untidy(seed, level_sizes)
+        ..Plan::untidy_in(format, seed, level_sizes)
     })
 }
 
@@ -78,4 +86,14 @@ fn three_levels() {
 #[test]
 fn five_levels() {
     assert!(assert_first_fault_wins(&small(5, &[1, 1, 2, 2, 4], 1)) > 10_000);
+}
+
+#[test]
+fn hfs_plus_at_every_size() {
+    for format in Format::all().skip(1) {
+        // Fewer of the larger images, as each pair copies one.
+        let step = 1 + format.node_size / 4_096;
+        assert!(assert_first_of_some_wins(&small_in(format, 6, &[], 2), step) > 10);
+        assert!(assert_first_of_some_wins(&small_in(format, 7, &[1, 2], 1), step) > 100);
+    }
 }

@@ -26,7 +26,7 @@ fn records_of(image: &[u8], node: usize) -> Option<Vec<(Key, usize)>> {
         }
         let file = word(offset + 2) * 65_536 + word(offset + 4);
         let fork = byte(offset + 1) as u8;
-        let key = Key::new(file, fork, word(offset + 6) as u16);
+        let key = Key::new(file, fork, word(offset + 6));
         let ascends = records.last().is_none_or(|before| before.0 < key);
         if byte(offset) != 7 || (fork != 0 && fork != 255) || !ascends {
             return None;
@@ -58,7 +58,7 @@ fn by_brute_force(image: &[u8], asked: Key) -> Salvage {
 
 /// Every key that any node gives, and one lawful key beside each.
 fn keys_worth_asking(image: &[u8]) -> Vec<Key> {
-    let mut keys = vec![Key::new(0, 0x00, 0), Key::new(u32::MAX, 0xFF, u16::MAX)];
+    let mut keys = vec![Key::new(0, 0x00, 0), Key::new(u32::MAX, 0xFF, 65_535)];
     for node in 1..image.len() / 512 {
         for (key, _) in records_of(image, node).unwrap_or_default() {
             keys.extend([key, Key::from_rank(key.rank() + 1)]);
@@ -71,7 +71,7 @@ fn keys_worth_asking(image: &[u8]) -> Vec<Key> {
 
 fn assert_right(image: &[u8]) {
     for asked in keys_worth_asking(image) {
-        let got = salvage(image, asked.file, asked.fork, asked.start);
+        let got = salvage(image, asked.file, asked.fork, asked.start as u16);
         assert_eq!(got, by_brute_force(image, asked), "{asked:?}");
     }
 }

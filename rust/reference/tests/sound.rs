@@ -12,9 +12,9 @@ fn assert_sound(built: &Built, name: &str) {
     let listed = leaf_records(&built.image);
     assert_eq!(listed.len(), built.records.len(), "{name}");
     for (listed, record) in listed.iter().zip(&built.records) {
-        let key = (listed.key.file, listed.key.fork, listed.key.start);
+        let key = (listed.key.file, listed.key.fork, u32::from(listed.key.start));
         assert_eq!(key, (record.key.file, record.key.fork, record.key.start), "{name}");
-        assert_eq!(listed.data, record.data, "{name}");
+        assert_eq!(listed.data[..], record.data, "{name}");
     }
 }
 

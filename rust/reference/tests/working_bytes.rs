@@ -41,7 +41,7 @@ fn verdict_of(answer: Answer) -> Verdict {
 #[track_caller]
 fn lookup_leaves(image: &[u8], asked: Key, lent: &[u8], left: &[u8]) -> Answer {
     let mut work = lent.to_vec();
-    let answer = lookup(image, asked.file, asked.fork, asked.start, &mut work).answer;
+    let answer = lookup(image, asked.file, asked.fork, asked.start as u16, &mut work).answer;
     assert!(work == left, "{asked:?} leaves {work:02X?}, not {left:02X?}");
     answer
 }

@@ -13,15 +13,16 @@ use Rattle.btree.specs.Tests.{decLengths}
 use Rattle.btree.specs.Work.{needed}
 use Rattle.btree.proofs.Decisions.{said}
 use Rattle.btree.proofs.Checked.{checked-1, checked-16}
-use Rattle.hfs.specs.Hfs.{hfs}
-use Rattle.formats.specs.Format.{format}
+use Rattle.frame.specs.Form.{layoutOf}
+use Rattle.frame.proofs.Forms.{fits}
+use Rattle.formats.specs.Format.{formatOf}
 use Rattle.checks.proofs.Answers.{Promised, refused-early, tested}
 use borrow.Author.Needs.{needs}
 use Rattle.checks.proofs.check.Statement.{statement}
 use Rattle.checks.proofs.check.Tie as tie
 
 -- the length is right
-lengths : (c : tie.Else1) → says (decLengths hfs (c .before .before .before .before .args .image .now)) ≡ true
+lengths : (c : tie.Else1) → let a = c .before .before .before .before .args in says (decLengths (layoutOf (a .form)) (a .image .now)) ≡ true
 lengths c = sym (c .before .length-right .ensures) ∙ not-false _ (c .if1 .left)
 
 length-right-requires : tie.Need-length-right-requires
@@ -33,9 +34,10 @@ at-node-requires c κs = search needs
 returns : tie.Need-returns
 returns c =
     let l = c .before .before in
+    let s = l .before .before .before in
     let n = ap (λ (v : Verdict). v .number) (c .at-node .ensures) in
-    refused-early _ _ _ (c .at-node .ensures ∙ sym (checked-1 hfs _ format _ (sym (l .length-right .ensures) ∙ not-true _ (c .before .if1 .taken))))
-    (List·Memᴰ·tail (List·Memᴰ·tail (List·Memᴰ·head n)))
+    refused-early _ (formatOf (s .args .form)) (fits (s .args .form) (s .pre)) _ _ _ (c .at-node .ensures ∙ sym (checked-1 _ _ (formatOf (s .args .form)) _ (sym (l .length-right .ensures) ∙ not-true _ (c .before .if1 .taken))))
+    (List·Memᴰ·tail (List·Memᴰ·tail (List·Memᴰ·tail (List·Memᴰ·head n))))
 
 needed-bytes-requires : tie.Need-needed-bytes-requires
 needed-bytes-requires c κs = search needs
@@ -46,9 +48,10 @@ at-node-requires-2 c κs = search needs
 returns-2 : tie.Need-returns-2
 returns-2 c =
     let b = c .before .before in
+    let s = b .before .before .before .before .before in
     let n = ap (λ (v : Verdict). v .number) (c .at-node2 .ensures) in
-    refused-early _ _ _ (c .at-node2 .ensures ∙ sym (checked-16 hfs _ format _ (lengths (b .before)) (omega (arith, c .before .if2 .taken, b .needed-bytes .ensures))))
-    (List·Memᴰ·tail (List·Memᴰ·tail (List·Memᴰ·tail (List·Memᴰ·head n))))
+    refused-early _ (formatOf (s .args .form)) (fits (s .args .form) (s .pre)) _ _ _ (c .at-node2 .ensures ∙ sym (checked-16 _ _ (formatOf (s .args .form)) _ (lengths (b .before)) (omega (arith, c .before .if2 .taken, b .needed-bytes .ensures))))
+    (List·Memᴰ·tail (List·Memᴰ·tail (List·Memᴰ·tail (List·Memᴰ·tail (List·Memᴰ·head n)))))
 
 sub-settled : tie.Need-sub-settled
 sub-settled c = search needs
@@ -63,6 +66,7 @@ settled-requires : tie.Need-settled-requires
 settled-requires c κs =
     let n = c .before .before .needed-bytes in
     record {
+      fair = c .before .before .before .before .before .before .before .pre;
       lengths = said (decLengths _ _) (lengths (c .before .before .before));
       enough = length-take-le (n .result - 0) _ (omega (arith, c .before .if2 .left)) ∙ omega (arith, n .ensures);
     }
@@ -76,11 +80,12 @@ returns-3 c =
     let x = t .before .before in
     let n = x .before .needed-bytes in
     let b = x .before .before in
-    let a = b .before .before .before .before .args in
-    let h : needed hfs (a .image .now) ≤ length (a .work .now) = omega (arith, x .if2 .left, n .ensures) in
-    let k : n .result - 0 ≡ needed hfs (a .image .now) = omega (arith, n .ensures) in
-    let w : Promised (a .image .now) (a .work .now) (t .settled .last .1 .0 ++ drop (n .result - 0) (a .work .now)) (t .settled .result) =
-    rw k (tested (a .image .now) (a .work .now) (t .settled .last .1 .0) (t .settled .result) (said (decLengths _ _) (lengths b)) h (t .settled .ensures .is) (t .settled .ensures .left))
+    let s = b .before .before .before .before in
+    let a = s .args in
+    let h : needed (layoutOf (a .form)) (a .image .now) ≤ length (a .work .now) = omega (arith, x .if2 .left, n .ensures) in
+    let k : n .result - 0 ≡ needed (layoutOf (a .form)) (a .image .now) = omega (arith, n .ensures) in
+    let w : Promised (layoutOf (a .form)) (formatOf (a .form)) (fits (a .form) (s .pre)) (a .image .now) (a .work .now) (t .settled .last .1 .1 .0 ++ drop (n .result - 0) (a .work .now)) (t .settled .result) =
+    rw k (tested (layoutOf (a .form)) (formatOf (a .form)) (fits (a .form) (s .pre)) (a .image .now) (a .work .now) (t .settled .last .1 .1 .0) (t .settled .result) (said (decLengths _ _) (lengths b)) h (t .settled .ensures .is) (t .settled .ensures .left))
     in w
 
 pub check-spec : {M : Type 1} → statement M

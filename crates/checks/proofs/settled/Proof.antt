@@ -6,8 +6,9 @@ use native.Mathlib.Omega.{arith}
 use lib.ListN.{replicate}
 use Rattle.btree.specs.Work.{neededLeft}
 use Rattle.btree.proofs.Work.{left-zeros, left-bits}
-use Rattle.hfs.specs.Hfs.{hfs}
-use Rattle.formats.specs.Format.{format}
+use Rattle.frame.specs.Form.{layoutOf}
+use Rattle.frame.proofs.Forms.{fits}
+use Rattle.formats.specs.Format.{formatOf}
 use Rattle.checks.proofs.Answers.{tested-range}
 use borrow.Author.Needs.{needs}
 use Rattle.checks.proofs.settled.Statement.{statement}
@@ -28,13 +29,13 @@ returns c =
     let t = n .before .before .before .before in
     let s = t .before .before .before .before in
     let e = t .tests .ensures .is in
-    let k = t .tests .kept .1 .0 in
+    let k = t .tests .kept .1 .1 .0 in
     record {
       is = e;
       left =
           c .before .before .clear .ensures
           ∙ ap (λ (k : ℕ). replicate k 0) (k ∙ s .pre .enough)
-          ∙ ⊎-elim (λ z. absurd (n .if1 .taken z)) (λ (a, b). sym (left-zeros hfs (s .args .image .now) format _ a b)) (tested-range _ (s .pre .lengths) _ e);
+          ∙ ⊎-elim (λ z. absurd (n .if1 .taken z)) (λ (a, b). sym (left-zeros (layoutOf (s .args .form)) (s .args .image .now) (formatOf (s .args .form)) _ a b)) (tested-range _ (formatOf (s .args .form)) (fits (s .args .form) (s .pre .fair)) _ (s .pre .lengths) _ e);
     }
 
 same-length-2 : tie.Need-same-length-2
@@ -48,8 +49,8 @@ returns-2 c =
     record {
       is = t .tests .ensures .is;
       left =
-          left-bits hfs (s .args .image .now) format _ (t .tests .kept .1 .0 ∙ s .pre .enough) (λ i. omega (arith, c .before .before .slice-known2 .given i)) (t .tests .ensures .used z)
-          ∙ ap (neededLeft hfs (s .args .image .now) format) (sym z);
+          left-bits (layoutOf (s .args .form)) (s .args .image .now) (formatOf (s .args .form)) _ (t .tests .kept .1 .1 .0 ∙ s .pre .enough) (λ i. omega (arith, c .before .before .slice-known2 .given i)) (t .tests .ensures .used z)
+          ∙ ap (neededLeft (layoutOf (s .args .form)) (s .args .image .now) (formatOf (s .args .form))) (sym z);
     }
 
 pub settled-spec : {M : Type 1} → statement M

@@ -11,24 +11,24 @@ use Rattle.btree.specs.Decide.{says}
 use Rattle.btree.specs.declared.Verdict.{Verdict}
 use Rattle.btree.proofs.Decisions.{says-yes}
 use Rattle.btree.proofs.Ordered.{fault-2, fault-3, fault-tree, fault-map}
-use Rattle.hfs.specs.Hfs.{hfs}
-use Rattle.formats.specs.Format.{format, view}
+use Rattle.frame.specs.Form.{keyLength, layoutOf}
+use Rattle.formats.specs.Format.{formatOf, view}
 use Rattle.checks.proofs.Framing.{room, framed, begins}
 use borrow.Author.Needs.{needs}
 use Rattle.checks.proofs.tests.Statement.{statement}
 use Rattle.checks.proofs.tests.Tie as tie
 
 -- what each test that passed says
-length-passed : (c : tie.Start) → says (decLengths hfs (c .args .image .now)) ≡ true
-length-passed c = says-yes (decLengths hfs (c .args .image .now)) (c .pre .lengths)
+length-passed : (c : tie.Start) → says (decLengths (layoutOf (c .args .form)) (c .args .image .now)) ≡ true
+length-passed c = says-yes (decLengths (layoutOf (c .args .form)) (c .args .image .now)) (c .pre .lengths)
 
-header-passed : (c : tie.Else1) → says (decHeaderNode hfs (c .before .before .before .before .args .image .now) 7) ≡ true
+header-passed : (c : tie.Else1) → let a = c .before .before .before .before .args in says (decHeaderNode (layoutOf (a .form)) (a .image .now) (keyLength (a .form))) ≡ true
 header-passed c = sym (c .before .header-right .ensures) ∙ not-false _ (c .if1 .left)
 
-chain-passed : (c : tie.Else2) → let img = c .before .before .before .before .before .before .before .before .before .before .args .image .now in chainFrom hfs img [] 0 (mapNodes hfs img) .number ≡ 0
+chain-passed : (c : tie.Else2) → let a = c .before .before .before .before .before .before .before .before .before .before .args in chainFrom (layoutOf (a .form)) (a .image .now) [] 0 (mapNodes (layoutOf (a .form)) (a .image .now)) .number ≡ 0
 chain-passed c = sym (ap (λ (t : Verdict). t .number) (c .before .before .before .before .map-chain .ensures .verdict)) ∙ c .if2 .left
 
-tree-passed : (c : tie.Else3) → walk (view (c .before .before .before .before .before .before .before .before .before .before .before .before .before .before .before .before .args .image .now)) .number ≡ 0
+tree-passed : (c : tie.Else3) → let a = c .before .before .before .before .before .before .before .before .before .before .before .before .before .before .before .before .args in walk (view (a .form) (a .image .now)) .number ≡ 0
 tree-passed c = sym (ap (λ (t : Verdict). t .number) (c .before .before .before .before .tree-tests .ensures .verdict)) ∙ c .if3 .left
 
 header-right-requires : tie.Need-header-right-requires
@@ -43,12 +43,12 @@ returns c =
     let s = h .before .before .before in
     let n = ap (λ (t : Verdict). t .number) (c .at-node .ensures) in
     record {
-      is = c .at-node .ensures ∙ sym (fault-2 hfs (s .args .image .now) format (length-passed s) (sym (h .header-right .ensures) ∙ not-true _ (c .before .if1 .taken)));
+      is = c .at-node .ensures ∙ sym (fault-2 (layoutOf (s .args .form)) (s .args .image .now) (formatOf (s .args .form)) (length-passed s) (sym (h .header-right .ensures) ∙ not-true _ (c .before .if1 .taken)));
       used = λ z. absurd (omega arith);
     }
 
 map-chain-requires : tie.Need-map-chain-requires
-map-chain-requires c κs = let b = c .before in let s = b .before .before .before .before in room (s .args .image .now) (s .args .bits .now) (s .pre) (header-passed b)
+map-chain-requires c κs = let b = c .before in let s = b .before .before .before .before in room (s .args .form) (s .args .image .now) (s .args .bits .now) (s .pre) (header-passed b)
 
 same-length : tie.Need-same-length
 same-length c = search needs
@@ -61,7 +61,7 @@ returns-2 c =
     let s = b .before .before .before .before in
     let e = m .map-chain .ensures .verdict in
     record {
-      is = e ∙ sym (fault-3 hfs (s .args .image .now) format (length-passed s) (header-passed b) (λ z. t .if2 .taken (ap (λ (t : Verdict). t .number) e ∙ z)));
+      is = e ∙ sym (fault-3 (layoutOf (s .args .form)) (s .args .image .now) (formatOf (s .args .form)) (length-passed s) (header-passed b) (λ z. t .if2 .taken (ap (λ (t : Verdict). t .number) e ∙ z)));
       used = λ z. absurd (t .if2 .taken z);
     }
 
@@ -71,7 +71,7 @@ tree-tests-requires c κs =
     let m = x .before .before .before .before in
     let b = m .before .before in
     let s = b .before .before .before .before in
-    begins (s .args .image .now) (s .args .bits .now) (s .pre) (header-passed b) (chain-passed x) _ (m .map-chain .kept .1 .0) _ (m .map-chain .ensures) (x .if2 .left)
+    begins (s .args .form) (s .args .image .now) (s .args .bits .now) (s .pre) (header-passed b) (chain-passed x) _ (m .map-chain .kept .1 .1 .0) _ (m .map-chain .ensures) (x .if2 .left)
 
 same-length-2 : tie.Need-same-length-2
 same-length-2 c = search needs
@@ -85,7 +85,7 @@ returns-3 c =
     let s = b .before .before .before .before in
     let e = w .tree-tests .ensures .verdict in
     record {
-      is = e ∙ sym (fault-tree hfs (s .args .image .now) format (length-passed s) (header-passed b) (chain-passed x) (λ z. t .if3 .taken (ap (λ (t : Verdict). t .number) e ∙ z)));
+      is = e ∙ sym (fault-tree (layoutOf (s .args .form)) (s .args .image .now) (formatOf (s .args .form)) (length-passed s) (header-passed b) (chain-passed x) (λ z. t .if3 .taken (ap (λ (t : Verdict). t .number) e ∙ z)));
       used = λ z. absurd (t .if3 .taken z);
     }
 
@@ -94,7 +94,7 @@ map-tests-requires c κs =
     let x = c .before .before .before .before .before .before .before in
     let b = x .before .before .before .before .before .before in
     let s = b .before .before .before .before in
-    framed (s .args .image .now) (s .args .bits .now) (s .pre) (header-passed b) (chain-passed x)
+    framed (s .args .form) (s .args .image .now) (s .args .bits .now) (s .pre) (header-passed b) (chain-passed x)
 
 same-length-3 : tie.Need-same-length-3
 same-length-3 c = search needs
@@ -109,7 +109,7 @@ returns-4 c =
     record {
       is =
           c .map-tests .ensures _ (t .marks (y .if3 .left)) (t .count (y .if3 .left))
-          ∙ sym (fault-map hfs (s .args .image .now) format (length-passed s) (header-passed b) (chain-passed x) (tree-passed y));
+          ∙ sym (fault-map (layoutOf (s .args .form)) (s .args .image .now) (formatOf (s .args .form)) (length-passed s) (header-passed b) (chain-passed x) (tree-passed y));
       used = λ z. t .marks (y .if3 .left);
     }
 

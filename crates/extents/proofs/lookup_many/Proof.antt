@@ -3,8 +3,8 @@ use mathlib.Core.Path.{refl, sym}
 use mathlib.Core.List.{List·Memᴰ·head, List·Memᴰ·tail}
 use native.Mathlib.Omega.{arith}
 use Rattle.btree.proofs.Work.{left-untouched, leaves}
-use Rattle.hfs.specs.Hfs.{hfs}
-use Rattle.formats.specs.Format.{format}
+use Rattle.frame.specs.Form.{hfs, layoutOf}
+use Rattle.formats.specs.Format.{formatOf}
 use Rattle.formats.proofs.Order.{Bytes}
 use Rattle.extents.proofs.Many.{placeable, refuses-row, refuses-image, fills}
 use borrow.Author.Needs.{needs}
@@ -21,7 +21,7 @@ returns : tie.Need-returns
 returns c =
     let a = c .before .before .before .before .before .before .args in
     refuses-row (a .image .now) (bytes (c .before .before .before .before .before)) (a .keys .now) (a .results .now) _ _ (a .work .now) _ _
-    (rw (c .at-node .ensures) (leaves hfs _ format 15 _ _ (sym (left-untouched hfs _ format 15 _ (List·Memᴰ·tail (List·Memᴰ·head refl))))))
+    (rw (c .at-node .ensures) (leaves (layoutOf hfs) _ (formatOf hfs) 15 _ _ (sym (left-untouched (layoutOf hfs) _ (formatOf hfs) 15 _ (List·Memᴰ·tail (List·Memᴰ·tail (List·Memᴰ·head refl)))))))
     (c .before .if1 .taken) (c .at-node .ensures) refl
 
 check-requires : tie.Need-check-requires

@@ -1,104 +1,23 @@
 -- `lookup_part` meets its contract. Assumes nothing.
-use native.Mathlib.Omega.{arith}
 use lib.ListN.{length}
-use mathlib.Core.Path.{_≡_, sym, ap, _∙_}
-use Rattle.btree.specs.declared.Lookup.{Lookup}
-use Rattle.btree.specs.declared.Answer.{Answer}
 use Rattle.formats.specs.Key.{asked}
-use Rattle.btree.specs.Numbers.{lookupReply}
-use Rattle.extents.specs.Reader.{Leaves, lookedUp}
-use Rattle.formats.specs.declared.key.Key.{Key}
-use Rattle.formats.proofs.Order.{InRange, Bytes}
-use Rattle.extents.proofs.Demands.{found-inside}
+use Rattle.frame.specs.Form.{hfs}
+use Rattle.frame.proofs.Forms.{hfs-listed}
+use Rattle.editions.proofs.Editions.{lookup-listed}
 use borrow.Author.Needs.{needs}
 use Rattle.extents.proofs.lookup_part.Statement.{statement}
 use Rattle.extents.proofs.lookup_part.Tie as tie
 
-bytes : (c : tie.After-shared-slice-known) → Bytes (c .before .args .image .now)
-bytes c i = omega (arith, c .shared-slice-known .given i)
-
-abbrev key : tie.Start → Key
-key c = asked (c .args .file) (c .args .fork) (c .args .start)
-
-key-inRange : (c : tie.Start) → InRange (key c)
-key-inRange c = record { fork = omega arith; start = omega arith }
-
--- what the lookup answers, as the definition has it
-answers : (c : tie.After-lookup) (a : Answer) → c .lookup .result .answer ≡ a → let s = c .before .before .before .before in
-    lookedUp (s .args .image .now) (key s) (length (s .args .work .now)) .answer ≡ a
-answers c a e = sym (ap (λ (l : Lookup). l .answer) (c .lookup .ensures .0)) ∙ e
-
--- and what it leaves
-leaves : (c : tie.After-lookup) → let s = c .before .before .before .before in
-    Leaves (s .args .image .now) (lookupReply (lookedUp (s .args .image .now) (key s) (length (s .args .work .now)) .answer) .number) (s .args .work .now) (c .lookup .last .1 .1 .1 .1 .0)
-leaves c = rw (c .lookup .ensures .0) at (c .lookup .ensures .1 .1)
-
-lookup-requires : tie.Need-lookup-requires
-lookup-requires c κs = search needs
-
-enum-known-answer : tie.Need-enum-known-answer
-enum-known-answer c = search needs
-
-data-of-requires : tie.Need-data-of-requires
-data-of-requires c κs =
-    let r = c .before in
-    let l = r .before .before .before .before in
-    let s = l .before .before .before .before in
-    found-inside (s .args .image .now) (bytes (l .before .before .before)) (key s) (key-inRange s) _ _ (answers l _ (r .answer .given .1))
-
-enum-told : tie.Need-enum-told
-enum-told c = search needs
-
-no-part-requires : tie.Need-no-part-requires
-no-part-requires c κs = search needs
-
-enum-told-2 : tie.Need-enum-told-2
-enum-told-2 c = search needs
-
-no-part-requires-2 : tie.Need-no-part-requires-2
-no-part-requires-2 c κs = search needs
+lookup-part-requires : tie.Need-lookup-part-requires
+lookup-part-requires c κs = search needs
 
 same-length : tie.Need-same-length
 same-length c = search needs
 
 returns : tie.Need-returns
 returns c =
-    let r = c .before .before in
-    let l = r .before .before .before .before in
-    (rw (answers l _ (r .answer .given .1)) (c .data-of .ensures), leaves l)
-
-same-length-2 : tie.Need-same-length-2
-same-length-2 c = search needs
-
-returns-2 : tie.Need-returns-2
-returns-2 c =
-    let t = c .before in
-    let l = t .before .before .before .before in
-    (rw (answers l _ (t .enum-told .given .1)) (c .no-part .ensures), leaves l)
-
-same-length-3 : tie.Need-same-length-3
-same-length-3 c = search needs
-
-returns-3 : tie.Need-returns-3
-returns-3 c =
-    let t = c .before in
-    let l = t .before .before .before .before in
-    (rw (answers l _ (t .enum-told2 .given .1)) (c .no-part2 .ensures), leaves l)
+    let a = c .before .before .before .before .before .before .args in
+    rw (lookup-listed hfs (a .image .now) hfs-listed (asked (a .file) (a .fork) (a .start)) (length (a .work .now))) at (c .before .before .lookup-part .ensures)
 
 pub lookup-part-spec : {M : Type 1} → statement M
-lookup-part-spec =
-    tie.close
-    (tie.spec
-    lookup-requires
-    enum-known-answer
-    data-of-requires
-    enum-told
-    no-part-requires
-    enum-told-2
-    no-part-requires-2
-    same-length
-    returns
-    same-length-2
-    returns-2
-    same-length-3
-    returns-3)
+lookup-part-spec = tie.close (tie.spec lookup-part-requires same-length returns)

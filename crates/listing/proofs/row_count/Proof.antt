@@ -1,7 +1,7 @@
 -- `row_count` meets its contract. Assumes nothing.
 use mathlib.Core.Path.{sym, _∙_}
 use Rattle.btree.specs.Header.{viewOf}
-use Rattle.formats.specs.Format.{view}
+use Rattle.extents.specs.Reader.{view}
 use Rattle.listing.proofs.Rows.{rows-counted}
 use borrow.Author.Needs.{needs}
 use Rattle.listing.proofs.row_count.Statement.{statement}

@@ -1,11 +1,18 @@
 -- `row_fields` meets its contract. Assumes nothing.
+use Rattle.frame.specs.Form.{hfs}
+use Rattle.frame.proofs.Forms.{hfs-listed, fair}
+use Rattle.formats.specs.Key.{keyAt}
+use Rattle.formats.specs.Format.{keySize}
 use Rattle.listing.specs.Rows.{fieldsOf}
 use borrow.Author.Needs.{needs}
 use Rattle.listing.proofs.row_fields.Statement.{statement}
 use Rattle.listing.proofs.row_fields.Tie as tie
 
+of-hfs-requires : tie.Need-of-hfs-requires
+of-hfs-requires c κs = search needs
+
 record-at-requires : tie.Need-record-at-requires
-record-at-requires c κs = search needs
+record-at-requires c κs = rw (c .of-hfs .ensures) (fair hfs hfs-listed)
 
 add-data : tie.Need-add-data
 add-data c = search needs
@@ -62,7 +69,7 @@ be16-requires-7 : tie.Need-be16-requires-7
 be16-requires-7 c κs = search needs
 
 returns : tie.Need-returns
-unfolding fieldsOf
+unfolding fieldsOf keyAt keySize
 returns c =
     rw (
       c .before .before .before .before .before .before .before .before .be32 .ensures,
@@ -75,12 +82,14 @@ returns c =
       c .before .be166 .ensures .0,
       c .be167 .ensures .0,
       c .before .before .before .before .before .before .before .before .before .record-at .ensures .0,
+      c .before .before .before .before .before .before .before .before .before .before .of-hfs .ensures,
     )
 
 pub row-fields-spec : {M : Type 1} → statement M
 row-fields-spec =
     tie.close
     (tie.spec
+    of-hfs-requires
     record-at-requires
     add-data
     add-be32

@@ -4,8 +4,8 @@ use Prim.Native.Nat.{ℕ}
 use native.Mathlib.Omega.{arith}
 use lib.ListN.{length-replicate}
 use Rattle.btree.proofs.Checked.{checked-else}
-use Rattle.hfs.specs.Hfs.{hfs}
-use Rattle.formats.specs.Format.{format}
+use Rattle.frame.specs.Form.{hfs, layoutOf}
+use Rattle.formats.specs.Format.{formatOf}
 use borrow.Author.Needs.{needs}
 use Rattle.printing.proofs.verdict_on.Statement.{statement}
 use Rattle.printing.proofs.verdict_on.Tie as tie
@@ -19,7 +19,7 @@ check-requires c κs = search needs
 returns : tie.Need-returns
 returns c =
     c .before .check .ensures .0
-    ∙ checked-else hfs _ format _
+    ∙ checked-else (layoutOf hfs) _ (formatOf hfs) _
     (λ t. let a = t .fewer in let b = t .lengths .few in let e = length-replicate {A = ℕ} 8192 0 in omega arith)
 
 pub verdict-on-spec : {M : Type 1} → statement M

@@ -1,37 +1,30 @@
 -- `found_data` meets its contract. Assumes nothing.
+use mathlib.Core.Path.{ap, _∙_}
+use Rattle.btree.specs.Lists.{padded}
+use Rattle.frame.specs.declared.form.Form.{Form}
+use Rattle.frame.specs.Form.{hfs}
+use Rattle.frame.proofs.Forms.{hfs-listed, fair}
+use Rattle.reader.specs.Reader.{foundPart}
+use Rattle.replies.specs.Written.{wideBytes}
+use Rattle.replies.proofs.Data.{narrowed}
 use borrow.Author.Needs.{needs}
 use Rattle.replies.proofs.found_data.Statement.{statement}
 use Rattle.replies.proofs.found_data.Tie as tie
 
-enum-known-answer : tie.Need-enum-known-answer
-enum-known-answer c = search needs
+of-hfs-requires : tie.Need-of-hfs-requires
+of-hfs-requires c κs = search needs
 
-record-data-requires : tie.Need-record-data-requires
-record-data-requires c κs = search needs
+found-wide-requires : tie.Need-found-wide-requires
+found-wide-requires c κs p e = rw (c .of-hfs .ensures) (fair hfs hfs-listed)
 
-enum-told : tie.Need-enum-told
-enum-told c = search needs
-
-enum-told-2 : tie.Need-enum-told-2
-enum-told-2 c = search needs
+narrow-requires : tie.Need-narrow-requires
+narrow-requires c κs = search needs
 
 returns : tie.Need-returns
-returns c = rw (c .before .before .answer .given .1) (c .record-data .ensures)
-
-returns-2 : tie.Need-returns-2
-returns-2 c = search needs
-
-returns-3 : tie.Need-returns-3
-returns-3 c = search needs
+returns c =
+    let w = c .before in
+    let a = w .before .before .before .args in
+    c .narrow .ensures ∙ ap (padded 12) (w .found-wide .ensures ∙ ap (λ (form : Form). wideBytes (a .image .now) (foundPart form (a .answer))) (w .before .of-hfs .ensures)) ∙ narrowed (a .image .now) (foundPart hfs (a .answer))
 
 pub found-data-spec : {M : Type 1} → statement M
-found-data-spec =
-    tie.close
-    (tie.spec
-    enum-known-answer
-    record-data-requires
-    enum-told
-    enum-told-2
-    returns
-    returns-2
-    returns-3)
+found-data-spec = tie.close (tie.spec of-hfs-requires found-wide-requires narrow-requires returns)

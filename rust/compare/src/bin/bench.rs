@@ -1,9 +1,10 @@
 //! Times the proved reader and the reference on sound images of 1 to 65,536 nodes, under many keys at
-//! once, and in one full leaf; nothing is asserted.
+//! once, in one full leaf, and on HFS Plus; nothing is asserted.
 
 use compare::packed;
-use images::node::MOST_LEAF_RECORDS;
-use images::{bench, samples, Built, Key, Rng};
+use hfs_btree::editions as proved;
+use images::{bench, samples, Built, Format, Key, Rng};
+use reference::editions as plain;
 use std::hint::black_box;
 use std::time::Instant;
 
@@ -15,6 +16,12 @@ const CALLS: usize = 10_000;
 /// The sizes at which a check's cost is shown, the largest last.
 const SIZES: [usize; 4] = [1, 100, 6_000, MOST_NODES];
 const MOST_NODES: usize = 65_536;
+
+/// As many nodes of 4,096 bytes as make an image as long as the largest of HFS.
+const PLUS_NODES: usize = 8_192;
+
+/// What a full leaf of HFS has.
+const MOST_LEAF_RECORDS: usize = 22;
 
 /// How many keys are looked up at once, the most last.
 const KEY_COUNTS: [usize; 3] = [1, 1_000, MOST_KEYS];
@@ -35,6 +42,8 @@ fn main() {
     many_keys(&built);
     growth();
     one_leaf();
+    println!("HFS Plus, nodes of 4,096 bytes in a random order");
+    largest_of_plus(&samples::largest_plus(PLUS_NODES));
 }
 
 fn largest(built: &Built) {
@@ -48,7 +57,7 @@ fn largest(built: &Built) {
         || reference::check(image(), &mut theirs),
     );
 
-    let Key { file, fork, start } = built.records[records / 2].key;
+    let (file, fork, start) = hfs_key(built.records[records / 2].key);
     report(
         "lookup",
         || hfs_btree::lookup(image(), file, fork, start, &mut ours),
@@ -56,12 +65,51 @@ fn largest(built: &Built) {
     );
 
     // A key that no record has makes salvage read every node.
-    let Key { file, fork, start } = Key::from_rank(built.records[records - 1].key.rank() + 1);
+    let (file, fork, start) = hfs_key(absent_key(built));
     report(
         "salvage",
         || hfs_btree::salvage(image(), file, fork, start),
         || reference::salvage(image(), file, fork, start),
     );
+}
+
+/// The same of an image whose edition and node size are said.
+fn largest_of_plus(built: &Built) {
+    let (nodes, records) = (built.total(), built.records.len());
+    println!("{nodes} nodes, {records} records, median of {RUNS}");
+    let (edition, node_size) = (built.format.edition_number(), built.format.node_size as u32);
+    let image = || black_box(built.image.as_slice());
+    let [mut ours, mut theirs] = lent_in(built.format, &built.image);
+    report(
+        "check",
+        || proved::check(edition, node_size, image(), &mut ours),
+        || plain::check(edition, node_size, image(), &mut theirs),
+    );
+
+    let Key { file, fork, start } = built.records[records / 2].key;
+    report(
+        "lookup",
+        || proved::lookup(edition, node_size, image(), file, fork, start, &mut ours),
+        || plain::lookup(edition, node_size, image(), file, fork, start, &mut theirs),
+    );
+
+    let Key { file, fork, start } = absent_key(built);
+    report(
+        "salvage",
+        || proved::salvage(edition, node_size, image(), file, fork, start),
+        || plain::salvage(edition, node_size, image(), file, fork, start),
+    );
+}
+
+/// A key above those of all records.
+fn absent_key(built: &Built) -> Key {
+    let last = built.records[built.records.len() - 1].key;
+    built.format.key_of_rank(built.format.rank_of(last) + 1)
+}
+
+/// As the calls for HFS are asked for it.
+fn hfs_key(key: Key) -> (u32, u8, u16) {
+    (key.file, key.fork, key.start as u16)
 }
 
 /// What a check of the largest tree of each size costs a node. A small one is repeated until it has
@@ -151,7 +199,11 @@ fn one_leaf() {
 
 /// The needed working bytes, for each reader its own.
 fn lent(image: &[u8]) -> [Vec<u8>; 2] {
-    let work = vec![0; reference::needed_work(image.len())];
+    lent_in(Format::HFS, image)
+}
+
+fn lent_in(format: Format, image: &[u8]) -> [Vec<u8>; 2] {
+    let work = vec![0; plain::needed_work(format.node_size as u32, image.len())];
     [work.clone(), work]
 }
 

@@ -2,7 +2,7 @@
 
 use super::{Moment, Patch, Place, Spoiling, Stage, Step};
 use crate::build::Built;
-use crate::node::{map_byte_at, HEADER_BITS, MAP_NODE_BITS};
+use crate::node::map_byte_at;
 use std::ops::Range;
 
 pub fn spoilings(built: &Built) -> Vec<Spoiling> {
@@ -41,19 +41,20 @@ fn two_bits(built: &Built) -> Vec<[usize; 2]> {
 
 /// The bits of every map record, the header's first, numbered along the chain.
 fn map_records(built: &Built) -> Vec<Range<usize>> {
-    let ends = (0..=built.map_chain.len()).map(|nodes| HEADER_BITS + nodes * MAP_NODE_BITS);
+    let (in_header, in_map_node) = (built.format.header_bits(), built.format.map_node_bits());
+    let ends = (0..=built.map_chain.len()).map(|nodes| in_header + nodes * in_map_node);
     let starts = [0].into_iter().chain(ends.clone());
     starts.zip(ends).map(|(start, end)| start..end).collect()
 }
 
 /// Flips bits of different bytes, the lowest first.
 fn flipped(built: &Built, what: String, bits: &[usize]) -> Spoiling {
-    let byte_at = |bit| map_byte_at(&built.map_chain, bit);
+    let byte_at = |bit| map_byte_at(built.format, &built.map_chain, bit);
     let flip = |&bit: &usize| {
         let at = byte_at(bit);
         Patch::byte(at, built.image[at] ^ (0x80 >> (bit % 8)))
     };
-    let place = Place::of_byte(byte_at(bits[0]));
+    let place = Place::of_byte(built.format, byte_at(bits[0]));
     Spoiling {
         what,
         edited: place.node,

@@ -2,7 +2,7 @@
 
 use super::{Moment, Patch, Place, Spoiling, Stage, Step};
 use crate::build::Built;
-use crate::node::{HEADER_BITS, MAP_NODE_BITS, NODE_SIZE};
+use crate::format::Format;
 
 pub fn spoilings(built: &Built) -> Vec<Spoiling> {
     let mut found = Vec::from_iter(header_to_tree(built));
@@ -10,7 +10,7 @@ pub fn spoilings(built: &Built) -> Vec<Spoiling> {
     found.extend(links(built, 0, 0));
     for (index, &number) in built.map_chain.iter().enumerate() {
         let turn = index as u32;
-        found.extend(fields(number, turn));
+        found.extend(fields(built.format, number, turn));
         found.extend(links(built, number, turn + 1));
         found.push(ring(built, number, turn + 1));
     }
@@ -27,14 +27,15 @@ fn header_to_tree(built: &Built) -> Option<Spoiling> {
 
 /// A node with a link out of range, or with none where more bits are needed, is itself at fault.
 fn links(built: &Built, number: u32, turn: u32) -> Vec<Spoiling> {
-    let at = number as usize * NODE_SIZE;
+    let at = number as usize * built.format.node_size;
     let moment = Moment::at(Stage::Chain, turn, Step::Link);
     let total = built.total();
     let mut found = vec![
         spoiling("map_link_to_total", number, number, moment, Patch::long(at, total)),
         spoiling("map_link_far_out", number, number, moment, Patch::long(at, u32::MAX)),
     ];
-    if HEADER_BITS + turn as usize * MAP_NODE_BITS < total as usize {
+    let bits = built.format.header_bits() + turn as usize * built.format.map_node_bits();
+    if bits < total as usize {
         found.push(spoiling("map_chain_cut", number, number, moment, Patch::long(at, 0)));
     }
     found
@@ -42,15 +43,17 @@ fn links(built: &Built, number: u32, turn: u32) -> Vec<Spoiling> {
 
 /// A link to a node already in the chain is the fault of the node that has it.
 fn ring(built: &Built, number: u32, turn: u32) -> Spoiling {
-    let at = number as usize * NODE_SIZE;
+    let at = number as usize * built.format.node_size;
     let moment = Moment::at(Stage::Chain, turn, Step::Link);
     let first = built.map_chain[0];
     let what = if first == number { "map_link_to_itself" } else { "map_link_to_first_map_node" };
     spoiling(what, number, number, moment, Patch::long(at, first))
 }
 
-fn fields(number: u32, turn: u32) -> Vec<Spoiling> {
-    let at = number as usize * NODE_SIZE;
+fn fields(format: Format, number: u32, turn: u32) -> Vec<Spoiling> {
+    let at = number as usize * format.node_size;
+    let end = at + format.node_size;
+    let free_of_other_edition = format.node_size - format.by_edition(6, 4);
     let moment = Moment::at(Stage::Chain, turn, Step::LinkedNode);
     let faults = [
         ("map_back_link_1", Patch::long(at + 4, 1)),
@@ -61,8 +64,8 @@ fn fields(number: u32, turn: u32) -> Vec<Spoiling> {
         ("map_count_2", Patch::word(at + 10, 2)),
         ("map_reserved_low_byte", Patch::byte(at + 13, 1)),
         ("map_reserved_high_byte", Patch::byte(at + 12, 1)),
-        ("map_free_offset", Patch::word(at + 508, 0x01FA)),
-        ("map_first_offset", Patch::word(at + 510, 0x000F)),
+        ("map_free_offset", Patch::word(end - 4, free_of_other_edition as u16)),
+        ("map_first_offset", Patch::word(end - 2, 0x000F)),
     ];
     faults.map(|(what, patch)| spoiling(what, number, number, moment, patch)).into()
 }

@@ -3,7 +3,7 @@
 use super::family::{visit_order, Member};
 use super::{Moment, Patch, Place, Spoiling, Stage, Step};
 use crate::build::Built;
-use crate::node::{INDEX_RECORD_SIZE, RECORDS_AT};
+use crate::node::RECORDS_AT;
 
 pub fn spoilings(built: &Built) -> Vec<Spoiling> {
     let order = visit_order(built);
@@ -35,11 +35,12 @@ fn spoiling(built: &Built, member: Member, moment: Moment, what: &str, value: u3
     let (what, at) = match member.parent(built) {
         None => (format!("root_is_{what}"), 16),
         Some((parent, record)) => {
-            let at = parent.at(built) + RECORDS_AT + record * INDEX_RECORD_SIZE + 8;
+            let before = record * built.format.index_record_size() + built.format.key_size();
+            let at = parent.at(built) + RECORDS_AT + before;
             (format!("child_{record}_is_{what}"), at)
         }
     };
-    let place = Place::of_byte(at);
+    let place = Place::of_byte(built.format, at);
     let patches = vec![Patch::long(at, value)];
     Spoiling { what, edited: place.node, number: 4, place, moment, patches }
 }

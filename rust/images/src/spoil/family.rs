@@ -2,7 +2,6 @@
 
 use crate::build::Built;
 use crate::key::Key;
-use crate::node::NODE_SIZE;
 
 /// A node of the tree, named by its level (from 0) and its position on that level.
 #[derive(Clone, Copy, PartialEq, Eq)]
@@ -37,7 +36,7 @@ impl Member {
 
     /// Where the node starts in the image.
     pub fn at(self, built: &Built) -> usize {
-        self.number(built) as usize * NODE_SIZE
+        self.number(built) as usize * built.format.node_size
     }
 
     pub fn is_leaf(self, built: &Built) -> bool {
@@ -94,6 +93,11 @@ impl Member {
     pub fn pointer_key(self, built: &Built) -> Option<Key> {
         let (parent, record) = self.parent(built)?;
         Some(parent.key(built, record))
+    }
+
+    /// The rank of the key of the pointer record to this node.
+    pub fn pointer_rank(self, built: &Built) -> Option<u128> {
+        self.pointer_key(built).map(|key| built.format.rank_of(key))
     }
 
     /// The key that every key here must stay below: that of the next record in the parent or, where

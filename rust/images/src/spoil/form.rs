@@ -3,6 +3,7 @@
 use super::family::{visit_order, Member};
 use super::{Moment, Patch, Place, Spoiling, Stage, Step};
 use crate::build::Built;
+use crate::format::Edition;
 use crate::node::*;
 
 pub fn spoilings(built: &Built) -> Vec<Spoiling> {
@@ -58,7 +59,8 @@ fn relevelled(built: &Built, level_byte: impl Fn(usize) -> u8) -> Vec<Patch> {
     let mut patches = Vec::new();
     for (index, level) in built.levels.iter().enumerate() {
         for &number in &level.numbers {
-            patches.push(Patch::byte(number as usize * NODE_SIZE + 9, level_byte(index)));
+            patches
+                .push(Patch::byte(number as usize * built.format.node_size + 9, level_byte(index)));
         }
     }
     patches
@@ -68,9 +70,9 @@ fn descriptor_faults(built: &Built, member: Member) -> Vec<(String, Patch)> {
     let at = member.at(built);
     let level = built.level_byte(member.level);
     let (other_kind, most) = if member.is_leaf(built) {
-        (INDEX_KIND, MOST_LEAF_RECORDS)
+        (INDEX_KIND, built.format.most_leaf_records())
     } else {
-        (LEAF_KIND, MOST_INDEX_RECORDS)
+        (LEAF_KIND, built.format.most_index_records())
     };
     let faults = [
         ("kind_other", Patch::byte(at + 8, other_kind)),
@@ -93,7 +95,7 @@ fn offset_faults(built: &Built, member: Member) -> Vec<(String, Patch)> {
     let size = record_size(built, member);
     (0..=member.record_count(built))
         .map(|record| {
-            let at = member.at(built) + NODE_SIZE - 2 - 2 * record;
+            let at = member.at(built) + built.format.node_size - 2 - 2 * record;
             let wrong = RECORDS_AT + record * size + 1;
             (format!("offset_{record}"), Patch::word(at, wrong as u16))
         })
@@ -106,19 +108,40 @@ fn key_faults(built: &Built, member: Member) -> Vec<(String, Patch)> {
     let mut found = Vec::new();
     for record in if last == 0 { vec![0] } else { vec![0, last] } {
         let at = member.at(built) + RECORDS_AT + record * record_size(built, member);
-        found.push((format!("key_length_6_of_{record}"), Patch::byte(at, 6)));
-        found.push((format!("key_length_8_of_{record}"), Patch::byte(at, 8)));
-        found.push((format!("fork_01_of_{record}"), Patch::byte(at + 1, 0x01)));
-        found.push((format!("fork_fe_of_{record}"), Patch::byte(at + 1, 0xFE)));
+        let fork_at = at + built.format.fork_at();
+        found.extend(wrong_lengths(built, at, record));
+        found.push((format!("fork_01_of_{record}"), Patch::byte(fork_at, 0x01)));
+        found.push((format!("fork_fe_of_{record}"), Patch::byte(fork_at, 0xFE)));
+        if built.format.pad_at().is_some() {
+            let swapped = [0x01, member.key(built, record).fork];
+            let what = format!("fork_and_pad_swapped_of_{record}");
+            found.push((what, Patch::bytes(fork_at, &swapped)));
+        }
     }
     found
 }
 
+/// Wrong lengths of the key that starts at `at`, in one byte or two.
+fn wrong_lengths(built: &Built, at: usize, record: usize) -> Vec<(String, Patch)> {
+    match built.format.edition {
+        Edition::Hfs => vec![
+            (format!("key_length_6_of_{record}"), Patch::byte(at, 6)),
+            (format!("key_length_8_of_{record}"), Patch::byte(at, 8)),
+        ],
+        Edition::HfsPlus => vec![
+            (format!("key_length_7_of_{record}"), Patch::word(at, 7)),
+            (format!("key_length_11_of_{record}"), Patch::word(at, 11)),
+            (format!("key_length_high_byte_of_{record}"), Patch::byte(at, 1)),
+            (format!("key_length_in_one_byte_of_{record}"), Patch::word(at, 0x0A00)),
+        ],
+    }
+}
+
 pub fn record_size(built: &Built, member: Member) -> usize {
     if member.is_leaf(built) {
-        LEAF_RECORD_SIZE
+        built.format.leaf_record_size()
     } else {
-        INDEX_RECORD_SIZE
+        built.format.index_record_size()
     }
 }
 

@@ -2,10 +2,38 @@
 
 use super::{Moment, Patch, Place, Spoiling, Stage};
 use crate::build::Built;
+use crate::format::{Format, PLUS_NODE_SIZES};
 
 pub fn spoilings(built: &Built) -> Vec<Spoiling> {
+    let mut found = start_faults();
+    found.extend(wrong_node_sizes(built.format).into_iter().map(|size| {
+        let what = format!("header_node_size_{size}");
+        spoiling(&what, Patch::word(32, size))
+    }));
+    found.extend(built.format.by_edition([6, 37], [7, 11]).map(|length| {
+        let what = format!("header_key_length_{length}");
+        spoiling(&what, Patch::word(34, length))
+    }));
     let total = built.total();
-    let mut found = vec![
+    found.push(spoiling("header_total_one_over", Patch::long(36, total + 1)));
+    found.push(spoiling("header_total_one_short", Patch::long(36, total - 1)));
+    found.push(spoiling("header_total_high_byte", Patch::byte(36, 0x80)));
+    let node_size = built.format.node_size;
+    found.extend((node_size - 8..node_size).map(|at| {
+        let what = format!("header_offset_byte_{at}");
+        spoiling(&what, Patch::byte(at, built.image[at] ^ 0x01))
+    }));
+    found.extend(if built.depth() == 0 {
+        tree_fields_without_tree()
+    } else {
+        vec![spoiling("header_depth_0_over_a_tree", Patch::word(14, 0))]
+    });
+    found
+}
+
+/// Faults before the sizes, which are the same in every format.
+fn start_faults() -> Vec<Spoiling> {
+    vec![
         spoiling("header_back_link_1", Patch::long(4, 1)),
         spoiling("header_kind_index", Patch::byte(8, 0x00)),
         spoiling("header_kind_map", Patch::byte(8, 0x02)),
@@ -18,24 +46,16 @@ pub fn spoilings(built: &Built) -> Vec<Spoiling> {
         spoiling("header_reserved_high_byte", Patch::byte(12, 1)),
         spoiling("header_depth_9", Patch::word(14, 9)),
         spoiling("header_depth_high_byte", Patch::byte(14, 1)),
-        spoiling("header_node_size_511", Patch::word(32, 511)),
-        spoiling("header_node_size_1024", Patch::word(32, 1024)),
-        spoiling("header_key_length_6", Patch::word(34, 6)),
-        spoiling("header_key_length_37", Patch::word(34, 37)),
-        spoiling("header_total_one_over", Patch::long(36, total + 1)),
-        spoiling("header_total_one_short", Patch::long(36, total - 1)),
-        spoiling("header_total_high_byte", Patch::byte(36, 0x80)),
-    ];
-    found.extend((504..512).map(|at| {
-        let what = format!("header_offset_byte_{at}");
-        spoiling(&what, Patch::byte(at, built.image[at] ^ 0x01))
-    }));
-    found.extend(if built.depth() == 0 {
-        tree_fields_without_tree()
-    } else {
-        vec![spoiling("header_depth_0_over_a_tree", Patch::word(14, 0))]
-    });
-    found
+    ]
+}
+
+/// Sizes that are not the one meant: those of HFS Plus, and a number that is no size at all.
+fn wrong_node_sizes(format: Format) -> Vec<u16> {
+    let right = format.node_size as u16;
+    let listed = PLUS_NODE_SIZES.map(|size| size as u16).into_iter();
+    let others: Vec<u16> = listed.filter(|&size| size != right).collect();
+    let others = format.by_edition(vec![1_024], others);
+    [vec![right - 1], others].concat()
 }
 
 /// At depth 0 all four fields that lead into the tree are 0.

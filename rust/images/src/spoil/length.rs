@@ -2,23 +2,26 @@
 
 use super::{Moment, Patch, Place, Spoiling, Stage};
 use crate::build::Built;
-use crate::node::{MOST_NODES, NODE_SIZE};
+use crate::node::MOST_NODES;
 
 pub fn spoilings(built: &Built) -> Vec<Spoiling> {
-    let len = built.image.len();
-    let lengths = [
-        ("length_0", 0),
-        ("length_511", NODE_SIZE - 1),
-        ("length_one_byte_short", len - 1),
-        ("length_one_byte_over", len + 1),
-        ("length_65537_nodes", (MOST_NODES + 1) * NODE_SIZE),
+    let (len, node_size) = (built.image.len(), built.format.node_size);
+    let mut found = vec![
+        resized("length_0".to_string(), 0),
+        resized(format!("length_{}", node_size - 1), node_size - 1),
+        resized("length_one_byte_short".to_string(), len - 1),
+        resized("length_one_byte_over".to_string(), len + 1),
     ];
-    lengths.map(|(what, len)| resized(what, len)).into()
+    // In larger nodes this takes up to two gigabytes.
+    if node_size == 512 {
+        found.push(resized("length_65537_nodes".to_string(), (MOST_NODES + 1) * node_size));
+    }
+    found
 }
 
-fn resized(what: &str, len: usize) -> Spoiling {
+fn resized(what: String, len: usize) -> Spoiling {
     Spoiling {
-        what: what.to_string(),
+        what,
         edited: 0,
         number: 1,
         place: Place::START,

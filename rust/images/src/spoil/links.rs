@@ -3,7 +3,6 @@
 use super::family::{visit_order, Member};
 use super::{Moment, Patch, Place, Spoiling, Stage, Step};
 use crate::build::Built;
-use crate::node::NODE_SIZE;
 
 const FORWARD: usize = 0;
 const BACK: usize = 4;
@@ -17,15 +16,21 @@ pub fn spoilings(built: &Built) -> Vec<Spoiling> {
         let forward = forward_moment(built, &order, member);
         for (what, value) in wrong_links(built, member, member.before(built)) {
             let patches = vec![Patch::long(at + BACK, value)];
-            found.push(spoiling(format!("back_link_{what}"), at + BACK, back, patches));
+            found.push(spoiling(built, format!("back_link_{what}"), at + BACK, back, patches));
         }
         let after = member.after(built).map(|after| after.number(built));
         for (what, value) in wrong_links(built, member, after) {
             let patches = vec![Patch::long(at + FORWARD, value)];
-            found.push(spoiling(format!("forward_link_{what}"), at + FORWARD, forward, patches));
+            found.push(spoiling(
+                built,
+                format!("forward_link_{what}"),
+                at + FORWARD,
+                forward,
+                patches,
+            ));
         }
         for (what, patches) in with_wrong_back_link(built, member) {
-            found.push(spoiling(what.to_string(), at + BACK, back, patches));
+            found.push(spoiling(built, what.to_string(), at + BACK, back, patches));
         }
     }
     found
@@ -57,14 +62,20 @@ fn with_wrong_back_link(built: &Built, member: Member) -> Vec<(&'static str, Vec
     let own = vec![Patch::long(at + BACK, u32::MAX), Patch::long(at + FORWARD, u32::MAX)];
     let mut found = vec![("both_links_far_out", own)];
     if let Some(before) = member.before(built) {
-        let before_at = before as usize * NODE_SIZE;
+        let before_at = before as usize * built.format.node_size;
         let cut = vec![Patch::long(at + BACK, 0), Patch::long(before_at + FORWARD, 0)];
         found.push(("cut_off_from_the_node_before", cut));
     }
     found
 }
 
-fn spoiling(what: String, link_at: usize, moment: Moment, patches: Vec<Patch>) -> Spoiling {
-    let place = Place::of_byte(link_at);
+fn spoiling(
+    built: &Built,
+    what: String,
+    link_at: usize,
+    moment: Moment,
+    patches: Vec<Patch>,
+) -> Spoiling {
+    let place = Place::of_byte(built.format, link_at);
     Spoiling { what, edited: place.node, number: 7, place, moment, patches }
 }

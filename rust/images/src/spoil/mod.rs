@@ -5,6 +5,7 @@ mod chain;
 mod child;
 mod family;
 mod form;
+mod harmless;
 mod header;
 mod length;
 mod links;
@@ -13,6 +14,7 @@ mod place;
 mod totals;
 
 use crate::build::Built;
+pub use harmless::harmless;
 pub use place::Place;
 
 /// Changes to a sound image and the fault that the table answers them with.
@@ -56,6 +58,7 @@ enum Stage {
     LeafTotals,
     Bits,
     FreeCount,
+    Never,
 }
 
 #[derive(Clone, Copy, Debug, PartialEq, Eq, PartialOrd, Ord)]

@@ -1,6 +1,6 @@
 //! Where in an image the table puts a fault.
 
-use crate::node::NODE_SIZE;
+use crate::format::Format;
 
 /// A node and a byte offset in it.
 #[derive(Clone, Copy, Debug, PartialEq, Eq)]
@@ -18,7 +18,8 @@ impl Place {
     }
 
     /// The place of the byte that stands at `at` in the image.
-    pub const fn of_byte(at: usize) -> Place {
-        Place { node: (at / NODE_SIZE) as u32, offset: (at % NODE_SIZE) as u32 }
+    pub const fn of_byte(format: Format, at: usize) -> Place {
+        let Format { node_size, .. } = format;
+        Place { node: (at / node_size) as u32, offset: (at % node_size) as u32 }
     }
 }

@@ -1,15 +1,25 @@
 -- `key::key_in` meets its contract. Assumes nothing.
+use mathlib.Core.Path.{_≡_}
 use native.Mathlib.Omega.{arith}
-use Rattle.formats.specs.Key.{packed}
+use Rattle.formats.specs.Key.{rank, rankOf}
+use Rattle.formats.specs.Format.{keySize}
+use Rattle.formats.proofs.Order.{key-hfs, key-plus}
+use Rattle.formats.proofs.Sizes.{key-size-hfs, key-size-plus}
 use borrow.Author.Needs.{needs}
 use Rattle.formats.proofs.key.key_in.Statement.{statement}
 use Rattle.formats.proofs.key.key_in.Tie as tie
+
+size-hfs : (c : tie.Then1) → keySize (c .before .before .before .args .form) ≡ 8
+size-hfs c = key-size-hfs _ (c .if1 .taken)
+
+size-plus : (c : tie.Else1) → keySize (c .before .before .before .args .form) ≡ 12
+size-plus c = key-size-plus _ (c .if1 .left)
 
 add-be32-in : tie.Need-add-be32-in
 add-be32-in c = search needs
 
 be32-in-requires : tie.Need-be32-in-requires
-be32-in-requires c κs = search needs
+be32-in-requires c κs = omega (arith, size-hfs c)
 
 cast-file : tie.Need-cast-file
 cast-file c = search needs
@@ -18,7 +28,7 @@ add-byte-in : tie.Need-add-byte-in
 add-byte-in c = search needs
 
 byte-in-requires : tie.Need-byte-in-requires
-byte-in-requires c κs = search needs
+byte-in-requires c κs = omega (arith, size-hfs (c .before))
 
 cast-fork : tie.Need-cast-fork
 cast-fork c = search needs
@@ -27,26 +37,51 @@ add-be16-in : tie.Need-add-be16-in
 add-be16-in c = search needs
 
 be16-in-requires : tie.Need-be16-in-requires
-be16-in-requires c κs = search needs
+be16-in-requires c κs = omega (arith, size-hfs (c .before .before))
 
-cast-start : tie.Need-cast-start
-cast-start c = search needs
+mul-owner : tie.Need-mul-owner
+mul-owner c = search needs
 
-mul-result : tie.Need-mul-result
-mul-result c = search needs
-
-mul-result-2 : tie.Need-mul-result-2
-mul-result-2 c = search needs
-
-add-result : tie.Need-add-result
-add-result c = search needs
-
-add-result-2 : tie.Need-add-result-2
-add-result-2 c = search needs
+add-owner : tie.Need-add-owner
+add-owner c = search needs
 
 returns : tie.Need-returns
-unfolding packed
-returns c = (omega arith, omega arith)
+unfolding rank rankOf
+returns c = let a = c .before .before .before .before .before .before .args in rw (key-hfs (a .form) (a .image .now) (a .at) (c .before .before .before .if1 .taken)) (omega arith)
+
+add-be32-in-2 : tie.Need-add-be32-in-2
+add-be32-in-2 c = search needs
+
+be32-in-requires-2 : tie.Need-be32-in-requires-2
+be32-in-requires-2 c κs = omega (arith, size-plus c)
+
+cast-file-2 : tie.Need-cast-file-2
+cast-file-2 c = search needs
+
+add-byte-in-2 : tie.Need-add-byte-in-2
+add-byte-in-2 c = search needs
+
+byte-in-requires-2 : tie.Need-byte-in-requires-2
+byte-in-requires-2 c κs = omega (arith, size-plus (c .before))
+
+cast-fork-2 : tie.Need-cast-fork-2
+cast-fork-2 c = search needs
+
+add-be32-in-3 : tie.Need-add-be32-in-3
+add-be32-in-3 c = search needs
+
+be32-in-requires-3 : tie.Need-be32-in-requires-3
+be32-in-requires-3 c κs = omega (arith, size-plus (c .before .before))
+
+mul-owner-2 : tie.Need-mul-owner-2
+mul-owner-2 c = search needs
+
+add-owner-2 : tie.Need-add-owner-2
+add-owner-2 c = search needs
+
+returns-2 : tie.Need-returns-2
+unfolding rank rankOf
+returns-2 c = let a = c .before .before .before .before .before .before .args in rw (key-plus (a .form) (a .image .now) (a .at) (c .before .before .before .if1 .left)) (omega arith)
 
 pub key-in-spec : {M : Type 1} → statement M
 key-in-spec =
@@ -60,9 +95,17 @@ key-in-spec =
     cast-fork
     add-be16-in
     be16-in-requires
-    cast-start
-    mul-result
-    mul-result-2
-    add-result
-    add-result-2
-    returns)
+    mul-owner
+    add-owner
+    returns
+    add-be32-in-2
+    be32-in-requires-2
+    cast-file-2
+    add-byte-in-2
+    byte-in-requires-2
+    cast-fork-2
+    add-be32-in-3
+    be32-in-requires-3
+    mul-owner-2
+    add-owner-2
+    returns-2)

@@ -1,41 +1,49 @@
 -- `records::record_offset` meets its contract. Assumes nothing.
 use native.Mathlib.Omega.{arith}
-use mathlib.Core.Path.{sym, _∙_}
 use Prim.Native.Nat.{_<_}
 use Rattle.btree.specs.Header.{viewOf}
-use Rattle.formats.specs.Format.{recordOffset, kindOf}
-use Rattle.formats.proofs.Sizes.{size-leaf, size-index, count-small}
+use Rattle.formats.specs.Format.{recordOffset}
+use Rattle.formats.proofs.Sizes.{count-small, records-small}
 use borrow.Author.Needs.{needs}
 use Rattle.formats.proofs.records.record_offset.Statement.{statement}
 use Rattle.formats.proofs.records.record_offset.Tie as tie
 
 -- a record of the node, so its number is below 2 ^ 16
-small : (c : tie.After-shared-slice-known) → c .before .args .i < 65536
+small : (c : tie.After-records-bytes) → let s = c .before .before .before in s .args .i < 65536
 unfolding viewOf
-small c = let n = count-small (c .before .args .image .now) (λ i. omega (arith, c .shared-slice-known .given i)) (c .before .args .node) in let h = c .before .pre in omega arith
+small c =
+    let s = c .before .before .before in
+    let k = c .before .before .shared-slice-known in
+    let n = count-small (s .args .form) (s .args .image .now) (λ i. omega (arith, k .given i)) (s .args .node) in
+    let h = s .pre .1 in
+    omega arith
 
-kind-of-requires : tie.Need-kind-of-requires
-kind-of-requires c κs = search needs
+bytes : (c : tie.After-records-bytes) → c .records-bytes .result < 4990000
+bytes c =
+    let s = c .before .before .before in
+    let r = records-small (s .args .i) (c .before .record-step .result) 65535 76 (omega (arith, small c)) (c .before .record-step .ensures .1) in
+    let e = c .records-bytes .ensures .0 in
+    omega arith
 
-mul-result : tie.Need-mul-result
-mul-result c = omega (arith, small (c .before .before))
+record-step-requires : tie.Need-record-step-requires
+record-step-requires c κs = search needs
+
+records-bytes-requires : tie.Need-records-bytes-requires
+records-bytes-requires c κs = search needs
 
 add-result : tie.Need-add-result
-add-result c = omega (arith, small (c .before .before))
+add-result c = search needs
 
-mul-result-2 : tie.Need-mul-result-2
-mul-result-2 c = omega (arith, small (c .before .before))
-
-add-result-2 : tie.Need-add-result-2
-add-result-2 c = omega (arith, small (c .before .before))
+cast-result : tie.Need-cast-result
+cast-result c = omega (arith, bytes c)
 
 returns : tie.Need-returns
-unfolding recordOffset kindOf
-returns c = (rw (size-leaf _ (sym (c .before .kind-of .ensures .0) ∙ c .if1 .taken)) (omega arith), omega (arith, small (c .before .before)))
-
-returns-2 : tie.Need-returns-2
-unfolding recordOffset kindOf
-returns-2 c = (rw (size-index _ (λ e. c .if1 .left (c .before .kind-of .ensures .0 ∙ e))) (omega arith), omega (arith, small (c .before .before)))
+unfolding recordOffset
+returns c =
+    let e = c .records-bytes .ensures .0 in
+    let z = c .before .record-step .ensures .0 in
+    (rw (← z) (omega arith), omega (arith, bytes c))
 
 pub record-offset-spec : {M : Type 1} → statement M
-record-offset-spec = tie.close (tie.spec kind-of-requires mul-result add-result mul-result-2 add-result-2 returns returns-2)
+record-offset-spec =
+    tie.close (tie.spec record-step-requires records-bytes-requires add-result cast-result returns)

@@ -1,8 +1,8 @@
 -- `bits::map_tests` meets its contract: test 9 finds what the search found, and test 10 compares the counts. Assumes nothing.
 use mathlib.Core.Path.{sym, _∙_}
 use native.Mathlib.Omega.{arith}
-use borrow.Author.Needs.{needs}
 use Rattle.map.proofs.MapTests.{fault9, fault10, map-fine}
+use borrow.Author.Needs.{needs}
 use Rattle.map.proofs.bits.map_tests.Statement.{statement}
 use Rattle.map.proofs.bits.map_tests.Tie as tie
 
@@ -10,7 +10,7 @@ bit-test-requires : tie.Need-bit-test-requires
 bit-test-requires c κs = search needs
 
 returns : tie.Need-returns
-returns c = λ ns k n. let b = c .before .before in sym (fault9 _ _ ns k (b .bit-test .result) (b .bit-test .ensures) (c .if1 .taken))
+returns c = λ ns k n. let b = c .before .before in sym (fault9 _ _ _ ns k (b .bit-test .result) (b .bit-test .ensures) (c .if1 .taken))
 
 be32-requires : tie.Need-be32-requires
 be32-requires c κs = search needs
@@ -33,7 +33,7 @@ at-node-requires c κs = search needs
 returns-2 : tie.Need-returns-2
 returns-2 c = λ ns k n. let e = c .before .before .before .before in
     let b = e .before .before in
-    c .at-node .ensures ∙ sym (fault10 _ _ ns k (b .bit-test .result) (b .bit-test .ensures) (e .if1 .left) (λ q. omega arith))
+    c .at-node .ensures ∙ sym (fault10 _ _ _ ns k (b .bit-test .result) (b .bit-test .ensures) (e .if1 .left) (λ q. omega arith))
 
 at-node-requires-2 : tie.Need-at-node-requires-2
 at-node-requires-2 c κs = search needs
@@ -41,7 +41,7 @@ at-node-requires-2 c κs = search needs
 returns-3 : tie.Need-returns-3
 returns-3 c = λ ns k n. let e = c .before .before .before .before in
     let b = e .before .before in
-    c .at-node2 .ensures ∙ sym (map-fine _ _ ns k (b .bit-test .result) (b .bit-test .ensures) (e .if1 .left) (omega arith))
+    c .at-node2 .ensures ∙ sym (map-fine _ _ _ ns k (b .bit-test .result) (b .bit-test .ensures) (e .if1 .left) (omega arith))
 
 pub map-tests-spec : {M : Type 1} → statement M
 map-tests-spec =

@@ -1,15 +1,15 @@
 -- `bits::wrong_in` meets its contract. The loops' invariants: what is left from the byte, and from the bit in it, gives what all bytes give. Assumes nothing.
 use mathlib.Core.Path.{_≡_, sym, ap, _∙_}
 use mathlib.Core.Logic.{⊎-elim}
+use mathlib.Core.Option.{some}
 use Prim.Native.Nat.{_+_, _-_, _*_, _≤_}
 use native.Mathlib.Omega.{arith}
-use borrow.Author.Needs.{needs}
 use lib.ListN.{length, drop}
 use Rattle.image.specs.Bit.{bitOf}
 use Rattle.btree.specs.Tests.{wrongIn, orSome, lowestWrong}
-use Rattle.btree.specs.declared.Hit.the-variants.{At, Nowhere}
-use Rattle.btree.specs.Hits.{hitOf}
+use Rattle.map.specs.declared.bits.Wrong.the-variants.{Nowhere}
 use Rattle.map.proofs.Wrong.{bit-right, bit-wrong, bits-end, byte-more, bytes-end, same-masked, masked-same, same-byte}
+use borrow.Author.Needs.{needs}
 use Rattle.map.proofs.bits.wrong_in.Statement.{statement}
 use Rattle.map.proofs.bits.wrong_in.Tie as tie
 
@@ -100,7 +100,7 @@ bytes-again c =
     (c .if1 .came)
 
 returns : tie.Need-returns Inv-bits μ-bits Inv-bytes μ-bytes
-returns c = c .before .bytes .inv .0 ∙ sym (ap hitOf (c .before .bytes .inv .2 ∙ bytes-end _ _ _ _ (c .bytes-test .left)))
+returns c = rw (c .before .bytes .inv .0) (sym (c .before .bytes .inv .2 ∙ bytes-end _ _ _ _ (c .bytes-test .left)))
 
 returns-2 : tie.Need-returns-2 Inv-bits μ-bits Inv-bytes μ-bytes
 returns-2 c =
@@ -110,7 +110,7 @@ returns-2 c =
     let inv = c .before .before .bits .inv .2 in
     let y = c .before .before .before .before .byte-at .ensures .0 in
     let e : (a .first + i) * 8 + j ≡ 8 * (a .first + i) + j = omega arith in
-    ap At e ∙ sym (ap hitOf (inv ∙ bit-wrong _ _ _ j _ (omega arith) (λ q. c .if2 .taken (masked-same _ _ _ _ j (omega arith) y q))))
+    ap some e ∙ sym (inv ∙ bit-wrong _ _ _ j _ (omega arith) (λ q. c .if2 .taken (masked-same _ _ _ _ j (omega arith) y q)))
 
 pub wrong-in-spec : {M : Type 1} → statement M
 wrong-in-spec =

@@ -1,25 +1,25 @@
 -- `chain::map_chain` meets its contract. The loop's invariant: what is left from `last` on gives what all of the chain gives. Assumes nothing.
 use mathlib.Core.Path.{_≡_, refl, sym, ap, _∙_}
-use Prim.Native.Nat.{_<_}
-use lib.ListN.{length, length-replicate}
-use Rattle.image.proofs.Laws.{mark-length}
 use mathlib.Core.Logic.{_⊎_, inl, inr, ⊎-elim}
 use mathlib.Core.Bool.{false}
+use Prim.Native.Nat.{_<_}
 use native.Mathlib.Omega.{arith}
 use borrow.Author.Tests.{not-true, not-false}
+use lib.ListN.{length, length-replicate}
 use Rattle.image.specs.Set.{member}
+use Rattle.image.proofs.Laws.{mark-length}
 use Rattle.btree.specs.Header.{totalOf, forwardOf}
-use Rattle.hfs.specs.Hfs.{hfs}
+use Rattle.frame.specs.Form.{layoutOf}
 use Rattle.map.proofs.Links.{Passed, Linked, passed-none, out-of-range, repeated, no-map-node, passed-more, all-counted, too-few, no-fault, all-marked, chain-faulty}
 use borrow.Author.Needs.{needs}
 use Rattle.map.proofs.chain.map_chain.Statement.{statement}
 use Rattle.map.proofs.chain.map_chain.Tie as tie
 
 abbrev Inv-loop : tie.InvT-loop
-Inv-loop image bits₀ total nodes₀ last₀ left₀ bits nodes last left = Passed image bits nodes last left × (length bits ≡ length bits₀)
+Inv-loop form image bits₀ total nodes₀ last₀ left₀ bits nodes last left = Passed (layoutOf form) image bits nodes last left × (length bits ≡ length bits₀)
 
 abbrev μ-loop : tie.MeasureT-loop
-μ-loop image bits₀ total nodes₀ last₀ left₀ bits nodes last left = left
+μ-loop form image bits₀ total nodes₀ last₀ left₀ bits nodes last left = left
 
 -- the loop, where the link from `last` is not 0, and the function's entry
 abbrev turn : tie.Else1 Inv-loop μ-loop → tie.At-loop Inv-loop μ-loop
@@ -37,8 +37,8 @@ long c =
     c .loop .inv .1
     ∙ ap length (c .before .before .before .mark .ensures) ∙ mark-length _ _ ∙ ap length (c .before .before .before .before .before .before .before .clear .ensures) ∙ length-replicate (length (entry c .args .bits .now)) 0
 
-linked : (c : tie.Else1 Inv-loop μ-loop)
-    → Linked (entry (turn c) .args .image .now) (turn c .loop .bits) (turn c .loop .nodes) (turn c .loop .last) (turn c .loop .left) (c .before .forward-of .result)
+linked : (c : tie.Else1 Inv-loop μ-loop) → let a = entry (turn c) .args in let t = turn c .loop in
+    Linked (layoutOf (a .form)) (a .image .now) (t .bits) (t .nodes) (t .last) (t .left) (c .before .forward-of .result)
 linked c =
     record { passed = turn c .loop .inv .0; more = c .before .before .loop-test .taken; link = c .before .forward-of .ensures; some = c .if1 .left }
 
@@ -49,8 +49,8 @@ fresh : (c : tie.Else3 Inv-loop μ-loop) → member (turn (c .before .before .be
 fresh c = sym (c .before .has .ensures) ∙ c .if3 .left
 
 -- where the loop is left, the chain is at its end
-over : (c : tie.Left-loop Inv-loop μ-loop)
-    → (c .before .loop .left ≡ 0) ⊎ (forwardOf hfs (entry (c .before) .args .image .now) (c .before .loop .last) ≡ 0)
+over : (c : tie.Left-loop Inv-loop μ-loop) → let a = entry (c .before) .args in
+    (c .before .loop .left ≡ 0) ⊎ (forwardOf (layoutOf (a .form)) (a .image .now) (c .before .loop .last) ≡ 0)
 over c = ⊎-elim (λ w. inl (omega arith)) (λ w. inr (sym (w .1 .ensures) ∙ w .2 .taken)) (c .loop-test .came)
 
 be32-requires : tie.Need-be32-requires Inv-loop μ-loop
@@ -65,7 +65,7 @@ mark-requires c κs = search needs
 loop-holds : tie.Need-loop-holds Inv-loop μ-loop
 loop-holds c =
     let e = entry-of c in
-    (rw (c .before .before .before .before .before .before .before .before .be32 .ensures, c .before .before .mark .ensures, c .before .before .before .before .before .before .clear .ensures) (passed-none _ _ (e .pre .some) (e .pre .enough)), refl)
+    (rw (c .before .before .before .before .before .before .before .before .be32 .ensures, c .before .before .mark .ensures, c .before .before .before .before .before .before .clear .ensures) (passed-none _ _ _ (e .pre .some) (e .pre .enough)), refl)
 
 forward-of-requires : tie.Need-forward-of-requires Inv-loop μ-loop
 forward-of-requires c κs = search needs
@@ -126,32 +126,37 @@ loop-again c =
       rw (c .before .before .mark2 .ensures) (mark-length _ _) ∙ turn (d .before .before .before .before .before) .loop .inv .1,
     )
 
-sub-if5 : tie.Need-sub-if5 Inv-loop μ-loop
-sub-if5 c = search needs
+cast-if5 : tie.Need-cast-if5 Inv-loop μ-loop
+cast-if5 c = search needs
+
+sub-map-size : tie.Need-sub-map-size Inv-loop μ-loop
+sub-map-size c = search needs
+
+map-size-requires : tie.Need-map-size-requires Inv-loop μ-loop
+map-size-requires c κs = search needs
 
 mul-if5 : tie.Need-mul-if5 Inv-loop μ-loop
-mul-if5 c = search needs
-
-add-if5 : tie.Need-add-if5 Inv-loop μ-loop
-add-if5 c = search needs
+mul-if5 c = omega (arith, c .map-size .ensures .1)
 
 faulty-requires-4 : tie.Need-faulty-requires-4 Inv-loop μ-loop
 faulty-requires-4 c κs = search needs
 
 same-length-4 : tie.Need-same-length-4 Inv-loop μ-loop
-same-length-4 c = long (c .before .before .before)
+same-length-4 c = long (c .before .before .before .before)
 
 returns-4 : tie.Need-returns-4 Inv-loop μ-loop
-returns-4 c = chain-faulty (c .faulty4 .ensures) (too-few (c .before .before .before .loop .inv .0) (over (c .before .before)) (omega arith))
+returns-4 c =
+    let l = c .before .before .before .before in
+    chain-faulty (c .faulty4 .ensures) (too-few (l .loop .inv .0) (over (c .before .before .before)) (omega (arith, c .before .before .map-size .ensures .0, c .before .if5 .taken)))
 
 same-length-5 : tie.Need-same-length-5 Inv-loop μ-loop
-same-length-5 c = long (c .before .before)
+same-length-5 c = long (c .before .before .before)
 
 returns-5 : tie.Need-returns-5 Inv-loop μ-loop
 returns-5 c =
-    let p = c .before .before .loop .inv .0 in
-    let e = over (c .before) in
-    record { verdict = sym (no-fault p e (omega arith)); marks = λ z. all-marked p e; count = λ z. all-counted p e }
+    let p = c .before .before .before .loop .inv .0 in
+    let e = over (c .before .before) in
+    record { verdict = sym (no-fault p e (omega (arith, c .before .map-size .ensures .0, c .if5 .left))); marks = λ z. all-marked p e; count = λ z. all-counted p e }
 
 pub map-chain-spec : {M : Type 1} → statement M
 map-chain-spec =
@@ -180,9 +185,10 @@ map-chain-spec =
     sub-left
     loop-less
     loop-again
-    sub-if5
+    cast-if5
+    sub-map-size
+    map-size-requires
     mul-if5
-    add-if5
     faulty-requires-4
     same-length-4
     returns-4

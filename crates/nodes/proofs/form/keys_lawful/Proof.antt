@@ -1,25 +1,34 @@
 -- `form::keys_lawful` meets its contract. Assumes nothing.
 use native.Mathlib.Omega.{arith}
 use Prim.Native.Nat.{ℕ, _+_, _-_, _*_, _<_, _≤_}
-use lib.ListN.{length, getD}
-use Rattle.btree.proofs.Decisions.{said, unsaid}
-use mathlib.Core.Path.{_≡_, sym, _∙_}
+use lib.ListN.{length}
+use mathlib.Core.Path.{_≡_}
 use borrow.Author.Tests.{not-true, not-false}
 use borrow.Author.Count.{below-more}
-use Rattle.formats.specs.Format.{recordAt}
-use Rattle.formats.specs.Key.{Lawful, decLawful}
-use Rattle.formats.proofs.Sizes.{record-next, offset-inside}
-use Rattle.nodes.proofs.Telling.{tells-yes, tells-no}
+use Rattle.formats.specs.Format.{keySize, recordAt}
+use Rattle.formats.proofs.Sizes.{size-some, record-next, offset-inside}
+use Rattle.nodes.specs.Lawfully.{KeyLaw}
+use Rattle.nodes.proofs.Telling.{tells-yes, tells-no, told-no}
 use borrow.Author.Needs.{needs}
 use Rattle.nodes.proofs.form.keys_lawful.Statement.{statement}
 use Rattle.nodes.proofs.form.keys_lawful.Tie as tie
 
 abbrev Inv-loop : tie.InvT-loop
-Inv-loop image node c step at₀ i₀ at i = (i ≤ c) × (at ≡ recordAt image node i) × (at ≤ 10000000000000 + 20 * i)
-    × ((j : ℕ) → j < i → (getD image (recordAt image node j) 0 ≡ 7) × Lawful (getD image (recordAt image node j + 1) 0))
+Inv-loop form image node c step at₀ i₀ at i = (i ≤ c) × (at ≡ recordAt form image node i) × (at ≤ 200000000000000 + 76 * i) × ((j : ℕ) → j < i → KeyLaw form image (recordAt form image node j))
 
 abbrev μ-loop : tie.MeasureT-loop
-μ-loop image node c step at₀ i₀ at i = c - i
+μ-loop form image node c step at₀ i₀ at i = c - i
+
+-- record i lies in the image
+inside : (c : tie.In-loop Inv-loop μ-loop) → let a = c .before .before .before .before .before .args in c .before .loop .at + keySize (a .form) ≤ length (a .image .now)
+inside c =
+    let s = c .before .before .before .before .before in
+    let l = c .before .loop in
+    let o = offset-inside (s .args .form) (s .args .image .now) (s .args .node) (s .args .c) (l .i) (s .pre .1) (c .loop-test .taken) in
+    let z = size-some (s .args .form) (Rattle.formats.specs.Format.kindOf (s .args .form) (s .args .image .now) (s .args .node)) in
+    let e = l .inv .1 in
+    let n = s .pre .0 .inside in
+    omega arith
 
 record-step-requires : tie.Need-record-step-requires Inv-loop μ-loop
 record-step-requires c κs = search needs
@@ -28,37 +37,16 @@ record-at-requires : tie.Need-record-at-requires Inv-loop μ-loop
 record-at-requires c κs = search needs
 
 loop-holds : tie.Need-loop-holds Inv-loop μ-loop
-loop-holds c = (search needs, c .record-at .ensures .0, omega (arith, c .record-at .ensures .1), λ j h. absurd (omega arith))
+loop-holds c = (search needs, c .record-at .ensures .0, omega (arith, c .record-at .ensures .2), λ j h. absurd (omega arith))
 
--- record i lies in the image
-inside : (c : tie.At-loop Inv-loop μ-loop) → c .loop .i < c .before .before .before .before .args .c → c .loop .at + 12 ≤ length (c .before .before .before .before .args .image .now)
-inside c h =
-    let a = c .before .before .before .before in
-    let o = offset-inside (a .args .image .now) (a .args .node) (c .loop .i) (omega (arith, a .pre .1)) in
-    let e = c .loop .inv .1 in
-    let n = a .pre .0 in
-    omega arith
-
-byte-in-requires : tie.Need-byte-in-requires Inv-loop μ-loop
-byte-in-requires c κs = let h = inside (c .before) (c .loop-test .taken) in omega arith
+key-lawful-requires : tie.Need-key-lawful-requires Inv-loop μ-loop
+key-lawful-requires c κs = inside c
 
 returns : tie.Need-returns Inv-loop μ-loop
-returns c = let l = c .before .before .before .loop in
-    tells-no (λ f. c .if1 .taken (c .before .byte-in .ensures .0 ∙ rw (l .inv .1) (f (l .i) (omega arith) .0)))
-
-add-byte-in : tie.Need-add-byte-in Inv-loop μ-loop
-add-byte-in c = search needs
-
-byte-in-requires-2 : tie.Need-byte-in-requires-2 Inv-loop μ-loop
-byte-in-requires-2 c κs = let l = c .before .before .before in let h = inside l (c .before .before .loop-test .taken) in omega arith
-
-is-lawful-requires : tie.Need-is-lawful-requires Inv-loop μ-loop
-is-lawful-requires c κs = search needs
-
-returns-2 : tie.Need-returns-2 Inv-loop μ-loop
-returns-2 c = let l = c .before .before .before .before .before .before .loop in
-    tells-no (λ f. unsaid (decLawful _) (sym (c .before .is-lawful .ensures) ∙ not-true _ (c .if2 .taken))
-    (rw (c .before .before .byte-in2 .ensures .0, l .inv .1) (f (l .i) (omega arith) .1)))
+returns c =
+    let k = c .before in
+    let l = k .before .before .loop in
+    tells-no (λ f. told-no _ (k .key-lawful .ensures) (not-true _ (c .if1 .taken)) (rw (l .inv .1) (f (l .i) (omega arith))))
 
 add-at : tie.Need-add-at Inv-loop μ-loop
 add-at c = search needs
@@ -70,23 +58,22 @@ loop-less : tie.Need-loop-less Inv-loop μ-loop
 loop-less c = search needs
 
 loop-again : tie.Need-loop-again Inv-loop μ-loop
-loop-again c = let l = c .before .before .before .before .before .before in
-    let e = l .loop .inv .1 in
+loop-again c =
+    let k = c .before in
+    let l = k .before .before in
     let s = l .before .before in
     let a = s .before .before .args in
-    let n = record-next (a .image .now) (a .node) (l .loop .i) in
-    let z = s .record-step .ensures in (
+    let n = record-next (a .form) (a .image .now) (a .node) (l .loop .i) in
+    let z = s .record-step .ensures in
+    let e = l .loop .inv .1 in (
       search needs,
       omega arith,
       omega arith,
-      below-more _ _ (l .loop .inv .3) (
-        rw (← e) (sym (c .before .before .before .before .byte-in .ensures .0) ∙ c .before .before .before .if1 .left),
-        rw (← e, ← c .before .before .byte-in2 .ensures .0) (said (decLawful _) (sym (c .before .is-lawful .ensures) ∙ not-false _ (c .if2 .left))),
-      ),
+      below-more _ _ (l .loop .inv .3) (rw (← e) (k .key-lawful .ensures .holds (not-false _ (c .if1 .left)))),
     )
 
-returns-3 : tie.Need-returns-3 Inv-loop μ-loop
-returns-3 c = tells-yes (λ j h. c .before .loop .inv .3 j (omega arith))
+returns-2 : tie.Need-returns-2 Inv-loop μ-loop
+returns-2 c = tells-yes (λ j h. c .before .loop .inv .3 j (omega arith))
 
 pub keys-lawful-spec : {M : Type 1} → statement M
 keys-lawful-spec =
@@ -97,14 +84,10 @@ keys-lawful-spec =
     record-step-requires
     record-at-requires
     loop-holds
-    byte-in-requires
+    key-lawful-requires
     returns
-    add-byte-in
-    byte-in-requires-2
-    is-lawful-requires
-    returns-2
     add-at
     add-i
     loop-less
     loop-again
-    returns-3)
+    returns-2)

@@ -22,7 +22,7 @@ unfolding viewOf
 returns c =
     let l = c .before .before .level-of .ensures .0 in
     let d = c .before .be16 .ensures .0 in
-    sym (says-no (decNodeOn _ _ _ _) (λ r. c .if1 .taken (let e = r .level in omega arith)))
+    sym (says-no (decNodeOn _ _ _ _ _) (λ r. c .if1 .taken (let e = r .level in omega arith)))
 
 kind-on-requires : tie.Need-kind-on-requires
 kind-on-requires c κs = search needs
@@ -39,9 +39,16 @@ returns-2 c =
     let e = c .before .before .if1 .left in
     c .records-right .ensures
     ∙ rw (c .before .kind-on .ensures, l)
-    (says-same (decRecords _ _ _) (decNodeOn _ _ _ _) (λ r. record { level = omega arith; records = r }) (λ n. n .records))
+    (says-same (decRecords _ _ _ _) (decNodeOn _ _ _ _ _) (λ r. record { level = omega arith; records = r }) (λ n. n .records))
 
 pub node-right-spec : {M : Type 1} → statement M
 node-right-spec =
     tie.close
-    (tie.spec level-of-requires be16-requires add-if1 returns kind-on-requires records-right-requires returns-2)
+    (tie.spec
+    level-of-requires
+    be16-requires
+    add-if1
+    returns
+    kind-on-requires
+    records-right-requires
+    returns-2)

@@ -1,6 +1,8 @@
 -- `descent::in_leaf` meets its contract. Assumes nothing.
 use mathlib.Core.Path.{sym, ap, _∙_}
+use borrow.Author.Tests.{eqb-true, eqb-false}
 use Rattle.btree.specs.declared.Answer.the-variants.{Found}
+use Rattle.formats.specs.Key.{rankOf}
 use Rattle.formats.specs.Format.{view}
 use Rattle.search.proofs.Narrowing.{leaf-none, leaf-has, leaf-other}
 use borrow.Author.Needs.{needs}
@@ -8,13 +10,16 @@ use Rattle.search.proofs.descent.in_leaf.Statement.{statement}
 use Rattle.search.proofs.descent.in_leaf.Tie as tie
 
 returns : tie.Need-returns
-returns c = let a = c .before .before .args in leaf-none (view (a .image .now)) (a .k) (a .node) (a .end) (c .if1 .taken)
+returns c = let a = c .before .before .args in leaf-none (view (a .form) (a .image .now)) (rankOf (a .key)) (a .node) (a .end) (c .if1 .taken)
 
 sub-key-of : tie.Need-sub-key-of
 sub-key-of c = search needs
 
 key-of-requires : tie.Need-key-of-requires
 key-of-requires c κs = search needs
+
+is-same-requires : tie.Need-is-same-requires
+is-same-requires c κs = search needs
 
 sub-record-place : tie.Need-sub-record-place
 sub-record-place c = search needs
@@ -23,14 +28,30 @@ record-place-requires : tie.Need-record-place-requires
 record-place-requires c κs = search needs
 
 returns-2 : tie.Need-returns-2
-returns-2 c = let k = c .before .before in
+returns-2 c =
+    let s = c .before .before in
+    let k = s .before in
     let a = k .before .before .before .args in
+    let e = eqb-true _ _ (sym (s .is-same .ensures) ∙ c .before .if2 .taken) in
     ap Found (c .record-place .ensures)
-    ∙ leaf-has (view (a .image .now)) (a .k) (a .node) (a .end) (k .before .if1 .left) (sym (k .key-of .ensures .0) ∙ c .before .if2 .taken)
+    ∙ leaf-has (view (a .form) (a .image .now)) (rankOf (a .key)) (a .node) (a .end) (k .before .if1 .left) (sym (k .key-of .ensures) ∙ e)
 
 returns-3 : tie.Need-returns-3
-returns-3 c = let a = c .before .before .before .before .args in
-    leaf-other (view (a .image .now)) (a .k) (a .node) (a .end) (c .before .before .if1 .left) (λ e. c .if2 .left (c .before .key-of .ensures .0 ∙ e))
+returns-3 c =
+    let k = c .before .before in
+    let a = k .before .before .before .args in
+    let n = eqb-false _ _ (sym (c .before .is-same .ensures) ∙ c .if2 .left) in
+    leaf-other (view (a .form) (a .image .now)) (rankOf (a .key)) (a .node) (a .end) (k .before .if1 .left) (λ e. n (k .key-of .ensures ∙ e))
 
 pub in-leaf-spec : {M : Type 1} → statement M
-in-leaf-spec = tie.close (tie.spec returns sub-key-of key-of-requires sub-record-place record-place-requires returns-2 returns-3)
+in-leaf-spec =
+    tie.close
+    (tie.spec
+    returns
+    sub-key-of
+    key-of-requires
+    is-same-requires
+    sub-record-place
+    record-place-requires
+    returns-2
+    returns-3)

@@ -2,9 +2,11 @@
 use Prim.Native.Nat.{_-_, _≤_}
 use mathlib.Core.Path.{_≡_, sym, ap, _∙_}
 use native.Mathlib.Nat.{sub-zero}
+use borrow.Author.Tests.{eqb-true, eqb-false}
 use Rattle.btree.specs.Header.{viewOf}
 use Rattle.btree.specs.Hits.{hitOf}
 use Rattle.btree.specs.Search.{recordWith}
+use Rattle.formats.specs.Key.{rankOf}
 use Rattle.formats.specs.Format.{view}
 use Rattle.search.proofs.Looking.{with-end, with-here, with-on}
 use borrow.Author.Needs.{needs}
@@ -12,10 +14,10 @@ use Rattle.search.proofs.record.record_with.Statement.{statement}
 use Rattle.search.proofs.record.record_with.Tie as tie
 
 abbrev Inv-loop : tie.InvT-loop
-Inv-loop image node k c i₀ i = (i ≤ c) × (recordWith (view image) node k 0 (view image .count node) ≡ recordWith (view image) node k i (c - i))
+Inv-loop form image node key c i₀ i = (i ≤ c) × (recordWith (view form image) node (rankOf key) 0 (view form image .count node) ≡ recordWith (view form image) node (rankOf key) i (c - i))
 
 abbrev μ-loop : tie.MeasureT-loop
-μ-loop image node k c i₀ i = c - i
+μ-loop form image node key c i₀ i = c - i
 
 count-of-requires : tie.Need-count-of-requires Inv-loop μ-loop
 count-of-requires c κs = search needs
@@ -27,10 +29,16 @@ loop-holds c = (search needs, rw (← c .count-of .ensures .0, sub-zero))
 key-of-requires : tie.Need-key-of-requires Inv-loop μ-loop
 key-of-requires c κs = search needs
 
+is-same-requires : tie.Need-is-same-requires Inv-loop μ-loop
+is-same-requires c κs = search needs
+
 returns : tie.Need-returns Inv-loop μ-loop
 returns c =
-    let l = c .before .before .before in
-    sym (ap hitOf (l .loop .inv .1 ∙ with-here (view (l .before .before .before .args .image .now)) _ _ _ _ (c .before .before .loop-test .taken) (sym (c .before .key-of .ensures .0) ∙ c .if1 .taken)))
+    let k = c .before .before in
+    let l = k .before .before in
+    let a = l .before .before .before .args in
+    let e = eqb-true _ _ (sym (c .before .is-same .ensures) ∙ c .if1 .taken) in
+    sym (ap hitOf (l .loop .inv .1 ∙ with-here (view (a .form) (a .image .now)) _ _ _ _ (k .before .loop-test .taken) (sym (k .key-of .ensures) ∙ e)))
 
 add-i : tie.Need-add-i Inv-loop μ-loop
 add-i c = search needs
@@ -40,11 +48,14 @@ loop-less c = search needs
 
 loop-again : tie.Need-loop-again Inv-loop μ-loop
 loop-again c =
-    let l = c .before .before .before in
-    (search needs, l .loop .inv .1 ∙ with-on (view (l .before .before .before .args .image .now)) _ _ _ _ (c .before .before .loop-test .taken) (λ e. c .if1 .left (c .before .key-of .ensures .0 ∙ e)))
+    let k = c .before .before in
+    let l = k .before .before in
+    let a = l .before .before .before .args in
+    let n = c .before .is-same .ensures in
+    (search needs, l .loop .inv .1 ∙ with-on (view (a .form) (a .image .now)) _ _ _ _ (k .before .loop-test .taken) (λ e. eqb-false _ _ (sym n ∙ c .if1 .left) (k .key-of .ensures ∙ e)))
 
 returns-2 : tie.Need-returns-2 Inv-loop μ-loop
-returns-2 c = sym (ap hitOf (c .before .loop .inv .1 ∙ with-end (view (c .before .before .before .before .args .image .now)) _ _ _ _ (c .loop-test .left)))
+returns-2 c = let a = c .before .before .before .before .args in sym (ap hitOf (c .before .loop .inv .1 ∙ with-end (view (a .form) (a .image .now)) _ _ _ _ (c .loop-test .left)))
 
 pub record-with-spec : {M : Type 1} → statement M
 record-with-spec =
@@ -55,6 +66,7 @@ record-with-spec =
     count-of-requires
     loop-holds
     key-of-requires
+    is-same-requires
     returns
     add-i
     loop-less

@@ -1,12 +1,18 @@
--- `rows::result_in` meets its contract. Assumes nothing.
-use mathlib.Core.Path.{_≡_, sym, ap, _∙_}
+-- `rows::result_in` meets its contract: it looks in the form of HFS. Assumes nothing.
+use mathlib.Core.Path.{_≡_, sym, ap, subst, _∙_}
+use Prim.Native.Nat.{ℕ}
 use borrow.Author.Tests.{not-true, not-false}
 use Rattle.btree.specs.declared.Answer.{Answer}
 use Rattle.btree.specs.declared.Lookup.{Lookup}
+use Rattle.btree.specs.Places.{imageOffset}
 use Rattle.btree.specs.Search.{answerOf}
 use Rattle.btree.proofs.Decisions.{said, unsaid}
-use Rattle.formats.specs.Key.{decKey}
-use Rattle.formats.specs.Format.{view}
+use Rattle.frame.specs.declared.form.Form.{Form}
+use Rattle.frame.specs.Form.{hfs, layoutOf, Fair}
+use Rattle.frame.proofs.Forms.{hfs-listed, fair}
+use Rattle.formats.specs.Key.{rank, unpacked, decKey}
+use Rattle.formats.specs.Format.{dataAt, view}
+use Rattle.search.specs.Descent.{Searchable}
 use Rattle.search.specs.Rows.{resultOf, resultIn}
 use Rattle.search.proofs.Filled.{result-no-key, result-key}
 use borrow.Author.Needs.{needs}
@@ -14,16 +20,26 @@ use Rattle.search.proofs.rows.result_in.Statement.{statement}
 use Rattle.search.proofs.rows.result_in.Tie as tie
 
 -- what the descent answers, as the definition has it
-answers : (c : tie.After-descend) (a : Answer) → c .descend .result .answer ≡ a → let s = c .before .before .before .before .args in
-    answerOf (view (s .image .now)) (s .number) ≡ a
-answers c a e = sym (ap (λ (l : Lookup). l .answer) (c .descend .ensures)) ∙ e
+answers : (c : tie.After-descend) (a : Answer) → c .descend .result .answer ≡ a → let s = c .before .before .before .before .before .before .args in
+    answerOf (view hfs (s .image .now)) (rank (unpacked (s .number))) ≡ a
+answers c a e =
+    let s = c .before .before .before .before .before .before .args in
+    let f = c .before .before .of-hfs in
+    subst (λ (form : Form). answerOf (view form (s .image .now)) (rank (unpacked (s .number))) ≡ a) (f .ensures)
+    (subst (λ (k : ℕ). answerOf (view (f .result) (s .image .now)) k ≡ a) (c .before .unpack .ensures) (sym (ap (λ (l : Lookup). l .answer) (c .descend .ensures)) ∙ e))
 
 -- and so its result
-result : (c : tie.After-descend) (a : Answer) → c .descend .result .answer ≡ a → let s = c .before .before .before .before .args in
+result : (c : tie.After-descend) (a : Answer) → c .descend .result .answer ≡ a → let s = c .before .before .before .before .before .before .args in
     resultOf a ≡ resultIn (s .image .now) (s .number)
 result c a e =
-    let w = c .before .before in
-    sym (result-key _ _ (said (decKey _) (sym (w .is-key .ensures) ∙ not-false _ (c .before .if1 .left))) ∙ ap resultOf (answers c a e))
+    let o = c .before .before .before in
+    sym (result-key _ _ (said (decKey _) (sym (o .before .is-key .ensures) ∙ not-false _ (o .if1 .left))) ∙ ap resultOf (answers c a e))
+
+-- where the data stands
+stands : (c : tie.After-data-at) → c .data-at .result ≡ dataAt hfs (imageOffset (layoutOf hfs) (c .before .before .answer .given .0 .0))
+stands c =
+    let f = c .before .before .before .before .before .before .of-hfs in
+    c .data-at .ensures .0 ∙ ap (λ (form : Form). dataAt form (imageOffset (layoutOf form) (c .before .before .answer .given .0 .0))) (f .ensures)
 
 is-key-requires : tie.Need-is-key-requires
 is-key-requires c κs = search needs
@@ -31,21 +47,28 @@ is-key-requires c κs = search needs
 returns : tie.Need-returns
 returns c = sym (result-no-key _ _ (unsaid (decKey _) (sym (c .before .is-key .ensures) ∙ not-true _ (c .if1 .taken))))
 
+of-hfs-requires : tie.Need-of-hfs-requires
+of-hfs-requires c κs = search needs
+
+unpack-requires : tie.Need-unpack-requires
+unpack-requires c κs = search needs
+
 descend-requires : tie.Need-descend-requires
-descend-requires c κs = search needs
+descend-requires c κs =
+    let s = c .before .before .before .before .before in
+    subst (λ (form : Form). Searchable form (s .args .image .now)) (sym (c .before .of-hfs .ensures)) (s .pre .searchable)
 
 enum-known-answer : tie.Need-enum-known-answer
 enum-known-answer c = search needs
 
 data-at-requires : tie.Need-data-at-requires
-data-at-requires c κs = search needs
+data-at-requires c κs = let f = c .before .before .before .before .before .of-hfs in subst Fair (sym (f .ensures)) (fair hfs hfs-listed)
 
 cast-result : tie.Need-cast-result
 cast-result c =
-    let r = c .before .before in
     let d = c .before .before .before .before in
-    let s = d .before .before .before .before .pre .small _ _ (answers d _ (r .answer .given .1)) in
-    let e = c .data-at .ensures .0 in
+    let s = d .before .before .before .before .before .before .pre .small _ _ (answers d _ (c .before .before .answer .given .1)) in
+    let e = stands c in
     search needs
 
 enum-told : tie.Need-enum-told
@@ -55,7 +78,7 @@ enum-told-2 : tie.Need-enum-told-2
 enum-told-2 c = search needs
 
 returns-2 : tie.Need-returns-2
-returns-2 c = c .data-at .ensures .0 ∙ result (c .before .before .before .before) _ (c .before .before .answer .given .1)
+returns-2 c = stands c ∙ result (c .before .before .before .before) _ (c .before .before .answer .given .1)
 
 returns-3 : tie.Need-returns-3
 returns-3 c = result (c .before .before) _ (c .enum-told .given .1)
@@ -69,6 +92,8 @@ result-in-spec =
     (tie.spec
     is-key-requires
     returns
+    of-hfs-requires
+    unpack-requires
     descend-requires
     enum-known-answer
     data-at-requires

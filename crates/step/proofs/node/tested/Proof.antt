@@ -11,7 +11,7 @@ use Rattle.btree.proofs.Keys.{wrong-iff}
 use Rattle.btree.specs.Walk.{fails, wrongKey}
 use Rattle.btree.specs.Header.{viewOf}
 use Rattle.btree.specs.Decide.{says}
-use Rattle.nodes.specs.Bound.{bound}
+use Rattle.order.specs.Bound.{bound}
 use Rattle.formats.specs.Format.{decNodeOn, view}
 use borrow.Author.Needs.{needs}
 use Rattle.step.proofs.node.tested.Statement.{statement}
@@ -21,18 +21,18 @@ use Rattle.step.proofs.node.tested.Tie as tie
 fresh : (c : tie.Else1) → c .before .before .args .fresh ≡ true
 fresh c = not-false _ (c .if1 .left)
 
-head : (c : tie.Else2) → let a = c .before .before .before .before .args in says (view (a .image .now) .decWellFormed (a .node) (a .level)) ≡ true
+head : (c : tie.Else2) → let a = c .before .before .before .before .args in says (view (a .form) (a .image .now) .decWellFormed (a .node) (a .level)) ≡ true
 head c = sym (c .before .node-right .ensures) ∙ not-false _ (c .if2 .left)
 
 -- a key that is wrong, or none
 wrong : (c : tie.After-i) → let a = c .before .before .before .before .before .before .before .args in
-    wrongKey (view (a .image .now)) (bound (a .low)) (bound (a .high)) (a .node) ≡ some (c .i .given .0 .0)
+    wrongKey (view (a .form) (a .image .now)) (bound (a .form) (a .image .now) (a .low)) (bound (a .form) (a .image .now) (a .high)) (a .node) ≡ some (c .i .given .0 .0)
 wrong c = hit-at _ _ (sym (c .before .before .wrong-key .ensures) ∙ c .i .given .1)
 
-keys : (c : tie.After-enum-told) → let a = c .before .before .before .before .before .before .before .args in wrongKey (view (a .image .now)) (bound (a .low)) (bound (a .high)) (a .node) ≡ none
+keys : (c : tie.After-enum-told) → let a = c .before .before .before .before .before .before .before .args in wrongKey (view (a .form) (a .image .now)) (bound (a .form) (a .image .now) (a .low)) (bound (a .form) (a .image .now) (a .high)) (a .node) ≡ none
 keys c = hit-nowhere _ (sym (c .before .before .wrong-key .ensures) ∙ c .enum-told .given .1)
 
-back : (c : tie.Else3) → let a = c .before .before .before .before .before .before .before .before .before .args in says (ℕ-discrete (view (a .image .now) .back (a .node)) (a .p)) ≡ true
+back : (c : tie.Else3) → let a = c .before .before .before .before .before .before .before .before .before .args in says (ℕ-discrete (view (a .form) (a .image .now) .back (a .node)) (a .p)) ≡ true
 unfolding viewOf
 back c = says-yes (ℕ-discrete _ _) (sym (c .before .back-of .ensures) ∙ c .if3 .left)
 
@@ -40,7 +40,7 @@ returns : tie.Need-returns
 returns c = sym (fault4 _ _ _ _ (not-true _ (c .if1 .taken)))
 
 node-right-requires : tie.Need-node-right-requires
-node-right-requires c κs = let p = c .before .before .pre in (p .0 (fresh c), p .1)
+node-right-requires c κs = let p = c .before .before .pre in (p .1 (fresh c), p .2)
 
 at-node-requires : tie.Need-at-node-requires
 at-node-requires c κs = search needs
@@ -51,14 +51,15 @@ returns-2 c = let n = c .before .before in c .at-node .ensures ∙ sym (fault5 _
 wrong-key-requires : tie.Need-wrong-key-requires
 unfolding viewOf
 wrong-key-requires c κs =
-    let r = said (decNodeOn _ _ _ _) (head c) .records in
-    record { node = c .before .before .before .before .pre .0 (fresh (c .before .before)); few = rw (r .isKind) (r .few) }
+    let r = said (decNodeOn _ _ _ _ _) (head c) .records in
+    let p = c .before .before .before .before .pre in
+    (record { node = p .1 (fresh (c .before .before)); few = rw (r .isKind) (r .few) }, p .3, p .4)
 
 enum-known-i : tie.Need-enum-known-i
 enum-known-i c = search needs
 
 record-place-requires : tie.Need-record-place-requires
-record-place-requires c κs = wrong-iff _ _ _ _ _ .0 (wrong (c .before)) .0
+record-place-requires c κs = let p = c .before .before .before .before .before .before .before .before .pre in (p .0, wrong-iff _ _ _ _ _ .0 (wrong (c .before)) .0)
 
 returns-3 : tie.Need-returns-3
 returns-3 c = let i = c .before .before in

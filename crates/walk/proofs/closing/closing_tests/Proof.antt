@@ -13,13 +13,13 @@ use Rattle.walk.proofs.closing.closing_tests.Statement.{statement}
 use Rattle.walk.proofs.closing.closing_tests.Tie as tie
 
 abbrev Inv-loop : tie.InvT-loop
-Inv-loop image w depth d₀ d = (d ≤ depth) × (closing (view image) (lastAt w) (w .first) (w .records) ≡ ends (view image) (lastAt w) d (depth - d) (rest (view image) w))
+Inv-loop form image w depth d₀ d = (d ≤ depth) × (closing (view form image) (lastAt w) (w .first) (w .records) ≡ ends (view form image) (lastAt w) d (depth - d) (rest (view form image) w))
 
 abbrev μ-loop : tie.MeasureT-loop
-μ-loop image w depth d₀ d = depth - d
+μ-loop form image w depth d₀ d = depth - d
 
 -- the last leaf, as the theory has it
-last-leaf : (c : tie.After-last-leaf Inv-loop μ-loop) → c .last-leaf .result ≡ lastAt (c .before .before .before .before .before .args .w) (pred (view (c .before .before .before .before .before .args .image .now) .depth))
+last-leaf : (c : tie.After-last-leaf Inv-loop μ-loop) → c .last-leaf .result ≡ lastAt (c .before .before .before .before .before .args .w) (pred (view (c .before .before .before .before .before .args .form) (c .before .before .before .before .before .args .image .now) .depth))
 unfolding viewOf
 last-leaf c = c .last-leaf .ensures ∙ ap (λ (k : ℕ). lastAt (c .before .before .before .before .before .args .w) (pred k)) (c .before .before .before .be16 .ensures .0)
 
@@ -28,7 +28,7 @@ be16-requires c κs = search needs
 
 loop-holds : tie.Need-loop-holds Inv-loop μ-loop
 unfolding viewOf
-loop-holds c = (search needs, closing-start (view (c .before .before .args .image .now)) (c .before .before .args .w) _ (c .be16 .ensures .0))
+loop-holds c = (search needs, closing-start (view (c .before .before .args .form) (c .before .before .args .image .now)) (c .before .before .args .w) _ (c .be16 .ensures .0))
 
 last-on-requires : tie.Need-last-on-requires Inv-loop μ-loop
 unfolding viewOf
@@ -70,7 +70,7 @@ returns-2 : tie.Need-returns-2 Inv-loop μ-loop
 returns-2 c = let t = c .before .before in
     let l = t .before .before in
     c .at-node .ensures
-    ∙ sym (l .before .loop .inv .1 ∙ ends-end _ _ _ _ _ (l .loop-test .left) ∙ unless-false _ _ _ (rw (last-leaf (t .before)) at (sym (t .totals-right .ensures) ∙ not-true _ (c .before .if2 .taken))))
+    ∙ sym (l .before .loop .inv .1 ∙ ends-end _ _ _ _ _ (l .loop-test .left) ∙ unless-false _ _ _ (rw (last-leaf (t .before)) at (sym (t .totals-right .ensures (t .before .before .before .before .before .before .args .form)) ∙ not-true _ (c .before .if2 .taken))))
 
 at-node-requires-2 : tie.Need-at-node-requires-2 Inv-loop μ-loop
 at-node-requires-2 c κs = search needs
@@ -79,7 +79,7 @@ returns-3 : tie.Need-returns-3 Inv-loop μ-loop
 returns-3 c = let t = c .before .before in
     let l = t .before .before in
     c .at-node2 .ensures
-    ∙ sym (l .before .loop .inv .1 ∙ ends-end _ _ _ _ _ (l .loop-test .left) ∙ unless-true _ _ _ (rw (last-leaf (t .before)) at (sym (t .totals-right .ensures) ∙ not-false _ (c .before .if2 .left))))
+    ∙ sym (l .before .loop .inv .1 ∙ ends-end _ _ _ _ _ (l .loop-test .left) ∙ unless-true _ _ _ (rw (last-leaf (t .before)) at (sym (t .totals-right .ensures (t .before .before .before .before .before .before .args .form)) ∙ not-false _ (c .before .if2 .left))))
 
 pub closing-tests-spec : {M : Type 1} → statement M
 closing-tests-spec =

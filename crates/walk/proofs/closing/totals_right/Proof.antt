@@ -14,21 +14,21 @@ be32-requires c κs = search needs
 
 returns : tie.Need-returns
 unfolding viewOf
-returns c = sym (says-no (decTotals (view (c .before .before .before .args .image .now)) (c .before .before .before .args .first) (c .before .before .before .args .last) (c .before .before .before .args .records)) (λ t. c .if1 .taken (c .before .be32 .ensures ∙ t .first)))
+returns c f = sym (says-no (decTotals (view f (c .before .before .before .args .image .now)) (c .before .before .before .args .first) (c .before .before .before .args .last) (c .before .before .before .args .records)) (λ t. c .if1 .taken (c .before .be32 .ensures ∙ t .first)))
 
 be32-requires-2 : tie.Need-be32-requires-2
 be32-requires-2 c κs = search needs
 
 returns-2 : tie.Need-returns-2
 unfolding viewOf
-returns-2 c = sym (says-no (decTotals (view (c .before .before .before .before .before .args .image .now)) (c .before .before .before .before .before .args .first) (c .before .before .before .before .before .args .last) (c .before .before .before .before .before .args .records)) (λ t. c .if2 .taken (c .before .be322 .ensures ∙ t .last)))
+returns-2 c f = sym (says-no (decTotals (view f (c .before .before .before .before .before .args .image .now)) (c .before .before .before .before .before .args .first) (c .before .before .before .before .before .args .last) (c .before .before .before .before .before .args .records)) (λ t. c .if2 .taken (c .before .be322 .ensures ∙ t .last)))
 
 be32-requires-3 : tie.Need-be32-requires-3
 be32-requires-3 c κs = search needs
 
 returns-3 : tie.Need-returns-3
 unfolding viewOf
-returns-3 c = rw (c .be323 .ensures) (totals-test (view (c .before .before .before .before .before .before .args .image .now)) _ _ _ (sym (c .before .before .before .before .be32 .ensures) ∙ c .before .before .before .if1 .left) (sym (c .before .before .be322 .ensures) ∙ c .before .if2 .left))
+returns-3 c f = rw (c .be323 .ensures) (totals-test (view f (c .before .before .before .before .before .before .args .image .now)) _ _ _ (sym (c .before .before .before .before .be32 .ensures) ∙ c .before .before .before .if1 .left) (sym (c .before .before .be322 .ensures) ∙ c .before .if2 .left))
 
 pub totals-right-spec : {M : Type 1} → statement M
 totals-right-spec =

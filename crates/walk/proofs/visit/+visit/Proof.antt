@@ -10,7 +10,7 @@ use Rattle.btree.specs.Lists.{span}
 use Rattle.btree.specs.Header.{viewOf}
 use Rattle.btree.specs.Walk.{entries}
 use Rattle.formats.specs.Format.{view}
-use Rattle.nodes.specs.Bound.{bound}
+use Rattle.order.specs.Bound.{bound}
 use Rattle.walk.specs.Visit.{steps}
 use Rattle.step.specs.State.{State, state}
 use Rattle.step.specs.Room.{Small}
@@ -21,14 +21,14 @@ use borrow.Fn.PlainCycle.{Measures, is, falls, and}
 use Rattle.walk.proofs.visit.visit.Reads as visit
 use Rattle.walk.proofs.visit.visit.Kinds as visit-kinds
 use Rattle.walk.proofs.visit.+visit.Lts-visit as lts
-use Rattle.hfs.proofs.node.count_of.Reads as count-of-reads
+use Rattle.frame.proofs.node.count_of.Reads as count-of-reads
 use Rattle.walk.proofs.visit.pointer_at.Reads as pointer-at-reads
 use Rattle.step.proofs.stepped.Reads as stepped-reads
 use Rattle.walk.proofs.visit.+visit.{statement}
 use Rattle.walk.proofs.visit.+visit.Tie.{close}
 
 abbrev μ-visit : Measures 2 visit-kinds.ps ℕ
-μ-visit κs a = a .1 .1 .1 .1 .1 .1 .0
+μ-visit κs a = a .1 .1 .1 .1 .1 .1 .1 .0
 
 abbrev pre : ℕ → In 2 visit-kinds.ps
 pre t = and 2 visit-kinds.ps (is 2 visit-kinds.ps μ-visit t) visit.Pre
@@ -46,15 +46,15 @@ calls t = (
 )
 
 abbrev Inv : lts.InvT-loop
-Inv image bits₀ node level below low high x₀ c i₀ bits x i =
+Inv form image bits₀ node level below low high x₀ c i₀ bits x i =
     (i ≤ c)
-    × (steps (view image) (state bits x) (span i (c - i) (kid (view image) (below - 1) level (bound high) node))
-    ≡ steps (view image) (state bits₀ x₀) (span 0 c (kid (view image) (below - 1) level (bound high) node)))
+    × (steps (view form image) (state bits x) (span i (c - i) (kid (view form image) (below - 1) level (bound form image high) node))
+    ≡ steps (view form image) (state bits₀ x₀) (span 0 c (kid (view form image) (below - 1) level (bound form image high) node)))
     × Small (state bits x)
     × (length bits ≡ length bits₀)
 
 abbrev μ : lts.MeasureT-loop
-μ image bits₀ node level below low high x₀ c i₀ bits x i = c - i
+μ form image bits₀ node level below low high x₀ c i₀ bits x i = c - i
 
 module _ (t : ℕ) where
   abbrev start : lts.At-loop (calls t) (pre t) visit.Post Inv μ → lts.Start (calls t) (pre t) visit.Post Inv μ
@@ -62,21 +62,21 @@ module _ (t : ℕ) where
 
   -- what the loop is to give is what the visit is to give
   whole : (c : lts.At-loop (calls t) (pre t) visit.Post Inv μ) → let a = start c .args in let s = c .before .before .before .before .before .stepped in
-      steps (view (a .image .now)) (state (s .last .1 .0) (s .result))
-      (span 0 (c .before .count-of .result) (kid (view (a .image .now)) (a .below - 1) (a .level) (bound (a .high)) (a .node)))
-      ≡ steps (view (a .image .now)) (state (a .bits .now) (a .w)) (entries (view (a .image .now)) (a .below) (a .level) (a .from) (bound (a .low)) (bound (a .high)) (a .node))
+      steps (view (a .form) (a .image .now)) (state (s .last .1 .1 .0) (s .result))
+      (span 0 (c .before .count-of .result) (kid (view (a .form) (a .image .now)) (a .below - 1) (a .level) (bound (a .form) (a .image .now) (a .high)) (a .node)))
+      ≡ steps (view (a .form) (a .image .now)) (state (a .bits .now) (a .w)) (entries (view (a .form) (a .image .now)) (a .below) (a .level) (a .from) (bound (a .form) (a .image .now) (a .low)) (bound (a .form) (a .image .now) (a .high)) (a .node))
   unfolding viewOf
   whole c =
       let a = start c .args in
-      let v = view (a .image .now) in
+      let v = view (a .form) (a .image .now) in
       let s = c .before .before .before .before .before .stepped in
-      ap (λ (k : ℕ). steps v (state (s .last .1 .0) (s .result)) (span 0 k (kid v (a .below - 1) (a .level) (bound (a .high)) (a .node)))) (c .before .count-of .ensures .0)
-      ∙ ap (λ (x : State). steps v x (span 0 (v .count (a .node)) (kid v (a .below - 1) (a .level) (bound (a .high)) (a .node)))) (s .ensures .is)
-      ∙ sym (steps-index v (state (a .bits .now) (a .w)) (a .below) (a .level) (a .from) (bound (a .low)) (bound (a .high)) (a .node) (c .before .before .if1 .left))
+      ap (λ (k : ℕ). steps v (state (s .last .1 .1 .0) (s .result)) (span 0 k (kid v (a .below - 1) (a .level) (bound (a .form) (a .image .now) (a .high)) (a .node)))) (c .before .count-of .ensures .0)
+      ∙ ap (λ (x : State). steps v x (span 0 (v .count (a .node)) (kid v (a .below - 1) (a .level) (bound (a .form) (a .image .now) (a .high)) (a .node)))) (s .ensures .is)
+      ∙ sym (steps-index v (state (a .bits .now) (a .w)) (a .below) (a .level) (a .from) (bound (a .form) (a .image .now) (a .low)) (bound (a .form) (a .image .now) (a .high)) (a .node) (c .before .before .if1 .left))
 
   -- no step changes how many bytes there are
   long : (c : lts.At-loop (calls t) (pre t) visit.Post Inv μ) → length (c .loop .bits) ≡ length (start c .args .bits .now)
-  long c = c .loop .inv .3 ∙ c .before .before .before .before .before .stepped .kept .1 .0
+  long c = c .loop .inv .3 ∙ c .before .before .before .before .before .stepped .kept .1 .1 .0
 
   stepped-requires : lts.Need-stepped-requires (calls t) (pre t) visit.Post Inv μ
   stepped-requires c κs = search needs
@@ -107,7 +107,8 @@ module _ (t : ℕ) where
   unfolding viewOf
   pointer-at-requires c κs =
       let e = c .before .before .before .before .count-of .ensures in
-      (omega (arith, e .1), e .0)
+      let p = start (c .before .before .before) .pre .1 in
+      (p .walkable .fair, omega (arith, e .1), e .0, p .highPlace)
 
   add-visit : lts.Need-add-visit (calls t) (pre t) visit.Post Inv μ
   add-visit c = omega (arith, start (c .before .before .before .before .before .before) .pre .1)
@@ -119,14 +120,14 @@ module _ (t : ℕ) where
   visit-requires c κs =
       let e = c .before .before .before in
       let l = e .before .before .before in
-      let p = start l .pre in (
+      let p = start l .pre in
+      let q = p .1 .walkable in (
         omega (arith, p),
         record {
-          few = p .1 .few;
-          whole = p .1 .whole;
-          room = omega (arith, p .1 .room, long l);
-          shallow = p .1 .shallow;
-          levels = omega (arith, p .1);
+          walkable = record { fair = q .fair; few = q .few; whole = q .whole; room = omega (arith, q .room, long l); shallow = q .shallow };
+          levels = omega (arith, p .1 .levels);
+          lowPlace = c .before .before .pointer-at .ensures .lowPlace;
+          highPlace = c .before .before .pointer-at .ensures .highPlace;
           clear = e .if2 .left;
           small = l .loop .inv .2;
         },
@@ -144,9 +145,9 @@ module _ (t : ℕ) where
       let l = c .before .before .before .before .before .before .before .before .before in
       let a = start l .args in (
         omega (arith, c .before .before .before .before .before .before .before .before .loop-test .taken),
-        sym (kids-on _ (a .below - 1) (a .level) _ _ _ _ _ _ _ (c .before .before .before .before .before .before .before .before .loop-test .taken) (c .before .before .before .before .before .pointer-at .ensures) (v .ensures .is)) ∙ l .loop .inv .1,
+        sym (kids-on _ _ (a .below - 1) (a .level) _ _ _ _ _ _ _ (c .before .before .before .before .before .before .before .before .loop-test .taken) (c .before .before .before .before .before .pointer-at .ensures) (v .ensures .is)) ∙ l .loop .inv .1,
         v .ensures .small,
-        v .kept .1 .0 ∙ l .loop .inv .3,
+        v .kept .1 .1 .0 ∙ l .loop .inv .3,
       )
 
   same-length-3 : lts.Need-same-length-3 (calls t) (pre t) visit.Post Inv μ

@@ -2,7 +2,6 @@
 
 use super::{after_raised, ends_and_middle, rekeyed, Fault};
 use crate::build::Built;
-use crate::key::{Key, LAWFUL_KEYS};
 use crate::spoil::family::Member;
 
 pub fn faults(built: &Built, member: Member) -> Vec<Fault> {
@@ -25,8 +24,8 @@ fn at_next_pointer(built: &Built, member: Member, record: usize) -> Option<Fault
 
 /// The records from one on keep their order, but all of them are beyond the bound.
 fn all_from_next_pointer(built: &Built, member: Member, record: usize) -> Option<Fault> {
-    let bound = member.upper_bound(built)?.rank();
-    let beyond = (bound..).map(Key::from_rank);
+    let bound = built.format.rank_of(member.upper_bound(built)?);
+    let beyond = (bound..).map(|rank| built.format.key_of_rank(rank));
     let keys: Vec<_> = (record..member.record_count(built)).zip(beyond).collect();
     let what = format!("keys_from_{record}_on_beyond_next_pointer");
     // Of the last record alone, this would be the fault above once more.
@@ -42,13 +41,13 @@ fn highest(built: &Built, member: Member, record: usize) -> Option<Fault> {
         None => after_raised(built, member, record),
     };
     let what = format!("key_{record}_highest");
-    let key = Key::from_rank(LAWFUL_KEYS - 1);
+    let key = built.format.key_of_rank(built.format.lawful_keys() - 1);
     Some(rekeyed(built, member, what, at_fault, &[(record, key)]))
 }
 
 /// The nearest key under that of the pointer; in record 0 it is also unlike the pointer's.
 fn below_pointer(built: &Built, member: Member, record: usize) -> Option<Fault> {
-    let rank = member.pointer_key(built)?.rank().checked_sub(1)?;
+    let below = built.format.key_of_rank(member.pointer_rank(built)?.checked_sub(1)?);
     let what = format!("key_{record}_below_pointer");
-    Some(rekeyed(built, member, what, record, &[(record, Key::from_rank(rank))]))
+    Some(rekeyed(built, member, what, record, &[(record, below)]))
 }

@@ -32,7 +32,7 @@ pub fn spoilings(built: &Built) -> Vec<Spoiling> {
             what: fault.what,
             edited: fault.edited.number(built),
             number: 6,
-            place: Place::of_byte(record_at(built, member, fault.record)),
+            place: Place::of_byte(built.format, record_at(built, member, fault.record)),
             moment: Moment::at(Stage::Tree, visit as u32, Step::Order),
             patches: fault.patches,
         }));
@@ -53,7 +53,9 @@ fn rekeyed(
 }
 
 fn set_key(built: &Built, member: Member, record: usize, key: Key) -> Patch {
-    Patch::bytes(record_at(built, member, record), &key.bytes())
+    // No rule judges the pad, so equal keys may differ in it.
+    let pad = 0xA5 ^ record as u8;
+    Patch::bytes(record_at(built, member, record), &built.format.key_bytes(key, pad))
 }
 
 /// Where a record starts in the image.

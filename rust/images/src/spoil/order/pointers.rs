@@ -18,22 +18,22 @@ pub fn faults(built: &Built, member: Member) -> Vec<Fault> {
 
 /// The nearest first key over that of the pointer, where it keeps the order and the bounds.
 fn first_key_above(built: &Built, member: Member) -> Option<Fault> {
-    let rank = member.pointer_key(built)?.rank() + 1;
+    let rank = member.pointer_rank(built)? + 1;
     let next = match member.record_count(built) {
         1 => member.upper_bound(built),
         _ => Some(member.key(built, 1)),
     };
-    if !is_below(rank, next) {
+    if !is_below(built, rank, next) {
         return None;
     }
     let what = "first_key_above_pointer".to_string();
-    Some(rekeyed(built, member, what, 0, &[(0, Key::from_rank(rank))]))
+    Some(rekeyed(built, member, what, 0, &[(0, built.format.key_of_rank(rank))]))
 }
 
 /// The nearest pointer over the child's first key, where it keeps the order of its own node.
 fn pointer_above(built: &Built, member: Member) -> Option<Fault> {
-    let rank = member.key(built, 0).rank() + 1;
-    if !is_below(rank, member.upper_bound(built)) {
+    let rank = first_rank(built, member) + 1;
+    if !is_below(built, rank, member.upper_bound(built)) {
         return None;
     }
     moved_pointer(built, member, "above", rank)
@@ -41,7 +41,7 @@ fn pointer_above(built: &Built, member: Member) -> Option<Fault> {
 
 /// The nearest pointer under the child's first key, where all keys left of the child stay below it.
 fn pointer_below(built: &Built, member: Member) -> Option<Fault> {
-    let rank = member.key(built, 0).rank().checked_sub(1)?;
+    let rank = first_rank(built, member).checked_sub(1)?;
     if rank < lowest_pointer(built, member) {
         return None;
     }
@@ -51,25 +51,25 @@ fn pointer_below(built: &Built, member: Member) -> Option<Fault> {
 /// The lowest pointer that keeps the order and all bounds, where it is not the nearest too.
 fn pointer_far_below(built: &Built, member: Member) -> Option<Fault> {
     let rank = lowest_pointer(built, member);
-    if rank + 1 >= member.key(built, 0).rank() {
+    if rank + 1 >= first_rank(built, member) {
         return None;
     }
     moved_pointer(built, member, "far_below", rank)
 }
 
 /// The pointer bounds all that is left of the child, so it has to stay above that.
-fn lowest_pointer(built: &Built, member: Member) -> u64 {
-    member.key_before(built).map_or(0, |key| key.rank() + 1)
+fn lowest_pointer(built: &Built, member: Member) -> u128 {
+    member.key_before(built).map_or(0, |key| built.format.rank_of(key) + 1)
 }
 
 /// Another key in the pointer to the node, and in each one above that has to equal it.
-fn moved_pointer(built: &Built, member: Member, how: &str, rank: u64) -> Option<Fault> {
+fn moved_pointer(built: &Built, member: Member, how: &str, rank: u128) -> Option<Fault> {
     let (parent, record) = member.parent(built)?;
     let moved = successors(Some((parent, record)), |&(node, record)| match record {
         0 => node.parent(built),
         _ => None,
     });
-    let key = Key::from_rank(rank);
+    let key = built.format.key_of_rank(rank);
     Some(Fault {
         what: format!("pointer_{record}_{how}_first_key"),
         edited: parent,
@@ -79,6 +79,10 @@ fn moved_pointer(built: &Built, member: Member, how: &str, rank: u64) -> Option<
     })
 }
 
-fn is_below(rank: u64, bound: Option<Key>) -> bool {
-    bound.is_none_or(|bound| rank < bound.rank())
+fn first_rank(built: &Built, member: Member) -> u128 {
+    built.format.rank_of(member.key(built, 0))
+}
+
+fn is_below(built: &Built, rank: u128, bound: Option<Key>) -> bool {
+    bound.is_none_or(|bound| rank < built.format.rank_of(bound))
 }

@@ -2,7 +2,6 @@
 
 use super::{after_raised, ends_and_middle, rekeyed, Fault};
 use crate::build::Built;
-use crate::key::Key;
 use crate::spoil::family::Member;
 
 pub fn faults(built: &Built, member: Member) -> Vec<Fault> {
@@ -52,7 +51,7 @@ fn equal_then_at_next_pointer(built: &Built, member: Member, pair: usize) -> Opt
 }
 
 fn unlike_pointer_then_equal(built: &Built, member: Member) -> Option<Fault> {
-    let above = Key::from_rank(member.pointer_key(built)?.rank() + 1);
+    let above = built.format.key_of_rank(member.pointer_rank(built)? + 1);
     let last = member.record_count(built) - 1;
     let keys = [(0, above), (last, member.key(built, last - 1))];
     let what = format!("first_key_above_pointer_and_{last}_lowered");
@@ -60,7 +59,7 @@ fn unlike_pointer_then_equal(built: &Built, member: Member) -> Option<Fault> {
 }
 
 fn below_pointer_then_at_next_pointer(built: &Built, member: Member) -> Option<Fault> {
-    let below = Key::from_rank(member.pointer_key(built)?.rank().checked_sub(1)?);
+    let below = built.format.key_of_rank(member.pointer_rank(built)?.checked_sub(1)?);
     let last = member.record_count(built) - 1;
     let keys = [(0, below), (last, member.upper_bound(built)?)];
     let what = format!("first_key_below_pointer_and_{last}_at_next_pointer");

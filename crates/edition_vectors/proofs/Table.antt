@@ -1,0 +1,28 @@
+-- The calls for an edition and a node size have the answers that are listed with them: each is computed.
+-- Assumes nothing.
+use mathlib.Core.Path.{refl}
+use mathlib.Core.Logic.{Dec·and, Dec·not}
+use native.Mathlib.Decide.{decLe, decLt, ℕ-discrete}
+use Rattle.image.specs.Bytes.{be16At, be32At}
+use Rattle.btree.specs.Decide.{says, map-dec, decImp, decOr, decMem, decAll, firstNot}
+use Rattle.btree.specs.Walk.{decIfSome, decFresh, decKeyRight, wrongKey, decLeads, decTotals, test, ends, closing, walk}
+use Rattle.btree.specs.Header.{viewOf}
+use Rattle.btree.specs.Halving.{halving, halved}
+use Rattle.btree.specs.Search.{halvedIn, lookupOf}
+use Rattle.btree.specs.Image.{mapBytes}
+use Rattle.btree.specs.Tests.{decDescriptor, decNoTree, wrongIn, lowestWrong, bitFor, decLengths, decMapNode, decHeaderNode, chainFrom, mapRecordPlace, mapBytePlace, bitTest, mapTests, verdict}
+use Rattle.btree.specs.Work.{bitsFor, checked, neededLeft, workLeft}
+use Rattle.frame.specs.Form.{decListed, keyLength, nodeMapOf}
+use Rattle.formats.specs.Key.{decLawful, keyAt, rank}
+use Rattle.formats.specs.Format.{kindOn, keySize, dataSize, recordSize, kindOf, recordOffset, lengthAt, decRecords, decNodeOn}
+use Rattle.order.specs.Whole.{decWholeLeaf}
+use Rattle.search.specs.Seen.{seenIn, seenFrom}
+use Rattle.reader.specs.Reader.{salvaged}
+use Rattle.editions.specs.Editions.{checkedAs, lookedUpAs, salvagedAs}
+use Rattle.vectors.specs.Build.{All}
+use Rattle.edition_vectors.specs.Table.{Right, editions}
+
+pub editions-right : All Right editions
+unfolding Dec·and Dec·not decLe decLt ℕ-discrete be16At be32At says map-dec decImp decOr decMem decAll firstNot decIfSome decFresh decKeyRight wrongKey decLeads decTotals test ends closing walk halving halved halvedIn lookupOf mapBytes decDescriptor decNoTree wrongIn lowestWrong bitFor decLengths decMapNode decHeaderNode chainFrom mapRecordPlace mapBytePlace bitTest mapTests verdict bitsFor checked neededLeft workLeft decListed decLawful keyAt rank keyLength nodeMapOf kindOn keySize dataSize recordSize kindOf recordOffset lengthAt decRecords decNodeOn viewOf decWholeLeaf seenIn seenFrom salvaged checkedAs lookedUpAs salvagedAs
+editions-right =
+    (refl, (refl, (refl, (refl, (refl, (refl, (refl, (refl, (refl, (refl, (refl, (refl, (refl, (refl, (refl, (refl, (refl, (refl, (refl, (refl, (refl, (refl, (refl, (refl, (refl, (refl, (refl, (refl, (refl, (refl, (refl, (refl, (refl, (refl, (refl, (refl, (refl, tt)))))))))))))))))))))))))))))))))))))

@@ -1,0 +1,58 @@
+-- `lookup_part` meets its contract. Assumes nothing.
+use mathlib.Core.Path.{refl, sym, _∙_}
+use mathlib.Core.List.{List·Memᴰ·head}
+use borrow.Author.Tests.{not-true, not-false}
+use Rattle.btree.proofs.Decisions.{said, unsaid}
+use Rattle.btree.proofs.Work.{left-untouched, leaves}
+use Rattle.frame.specs.Form.{formOf, Listed, decListed, layoutOf}
+use Rattle.frame.proofs.Forms.{fair}
+use Rattle.formats.specs.Format.{formatOf}
+use Rattle.editions.proofs.Editions.{lookup-listed, lookup-unlisted}
+use borrow.Author.Needs.{needs}
+use Rattle.editions.proofs.lookup_part.Statement.{statement}
+use Rattle.editions.proofs.lookup_part.Tie as tie
+
+listed : (c : tie.Else1) → let a = c .before .before .before .before .args in Listed (formOf (a .edition) (a .size))
+listed c = said (decListed _) (sym (c .before .is-listed .ensures) ∙ not-false _ (c .if1 .left))
+
+unlisted : (c : tie.Then1) → let a = c .before .before .before .before .args in Listed (formOf (a .edition) (a .size)) → ⊥
+unlisted c = unsaid (decListed _) (sym (c .before .is-listed .ensures) ∙ not-true _ (c .if1 .taken))
+
+is-listed-requires : tie.Need-is-listed-requires
+is-listed-requires c κs = search needs
+
+no-part-requires : tie.Need-no-part-requires
+no-part-requires c κs = search needs
+
+returns : tie.Need-returns
+returns c =
+    let t = c .before in
+    let a = t .before .before .before .before .args in
+    let f = formOf (a .edition) (a .size) in
+    rw (lookup-unlisted f (a .image .now) (unlisted t) _ _)
+    (c .no-part .ensures, leaves (layoutOf f) _ (formatOf f) 25 _ _ (sym (left-untouched (layoutOf f) _ (formatOf f) 25 _ (List·Memᴰ·head refl))))
+
+lookup-part-requires : tie.Need-lookup-part-requires
+lookup-part-requires c κs = fair _ (listed (c .before))
+
+same-length : tie.Need-same-length
+same-length c = search needs
+
+returns-2 : tie.Need-returns-2
+returns-2 c =
+    let k = c .before .before in
+    let x = k .before .before in
+    let a = x .before .before .before .before .args in
+    let f = formOf (a .edition) (a .size) in
+    rw (lookup-listed f (a .image .now) (listed x) _ _) (k .lookup-part .ensures)
+
+pub lookup-part-spec : {M : Type 1} → statement M
+lookup-part-spec =
+    tie.close
+    (tie.spec
+    is-listed-requires
+    no-part-requires
+    returns
+    lookup-part-requires
+    same-length
+    returns-2)

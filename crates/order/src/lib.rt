@@ -1,0 +1,3 @@
+// The order of a node's keys: test 6, and whether a node is a whole leaf.
+pub mod keys;
+pub mod whole;

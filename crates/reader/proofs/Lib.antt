@@ -1,0 +1,9 @@
+pub mod Soundness
+pub mod Levels
+pub mod Pointers
+pub mod Parts
+pub mod Starts
+pub mod Compared
+pub mod Demands
+pub mod Matches
+pub mod Salvaged

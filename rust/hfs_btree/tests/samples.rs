@@ -1,0 +1,42 @@
+//! The sample images of the repository, as the generator makes them, and what the proved reader says of them.
+
+use hfs_btree::editions::{check, needed_work, Edition, Place, Verdict};
+use images::{bench, samples, Key};
+use std::path::Path;
+
+fn sample(name: &str) -> Vec<u8> {
+    let folder = Path::new(env!("CARGO_MANIFEST_DIR")).join("../../samples");
+    std::fs::read(folder.join(name)).expect(name)
+}
+
+fn says(edition: Edition, node_size: u32, image: &[u8]) -> (u32, u32, u32) {
+    let mut work = vec![0; needed_work(node_size, image.len())];
+    let Verdict { number, place: Place { node, offset } } =
+        check(edition, node_size, image, &mut work);
+    (number, node, offset)
+}
+
+#[test]
+fn of_hfs() {
+    let pointer_below = bench::two_leaves_with_pointer(1, Key::new(16, 0x00, 6));
+    let all = [
+        ("l1.img", bench::l1(), (0, 0, 0)),
+        ("two_leaves.img", bench::two_leaves(), (0, 0, 0)),
+        ("two_leaves_pointer_below_first_key.img", pointer_below, (6, 3, 14)),
+        ("three_level.img", samples::three_level().image, (0, 0, 0)),
+    ];
+    for (name, made, said) in all {
+        assert_eq!(sample(name), made, "{name}");
+        assert_eq!(says(Edition::Hfs, 512, &made), said, "{name}");
+    }
+}
+
+#[test]
+fn of_hfs_plus() {
+    let made = samples::two_level_plus().image;
+    assert_eq!(sample("plus_4096_two_level.img"), made);
+    assert_eq!(says(Edition::HfsPlus, 4_096, &made), (0, 0, 0));
+    // A header that has another node size, or the key length of the other edition.
+    assert_eq!(says(Edition::HfsPlus, 512, &made), (2, 0, 0));
+    assert_eq!(says(Edition::Hfs, 512, &made), (2, 0, 0));
+}
