@@ -13,10 +13,11 @@ use Rattle.btree.specs.Tests.{decHeaderNode, chainFrom}
 use Rattle.btree.proofs.Decisions.{said}
 use Rattle.btree.proofs.Chain.{chain-few, chain-rules}
 use Rattle.btree.proofs.MapBits.{some-nodes}
-use Rattle.map.specs.declared.chain.Chain.{Chain}
+use Rattle.chain.specs.declared.Chain.{Chain}
 use Rattle.frame.specs.declared.form.Form.{Form}
 use Rattle.frame.specs.Form.{keyLength, layoutOf}
-use Rattle.map.specs.Frame.{Room, ChainOf, Framed}
+use Rattle.chain.specs.Frame.{Room, ChainOf}
+use Rattle.map.specs.Framed.{Framed}
 use Rattle.frame.proofs.Forms.{fits, nodes-few, nodes-whole}
 use Rattle.walk.specs.Outcome.{Begins}
 use Rattle.checks.specs.Tested.{Ready}

@@ -11,7 +11,7 @@ use Rattle.btree.specs.Tests.{verdict}
 use Rattle.btree.specs.Work.{needed, neededLeft}
 use Rattle.frame.specs.declared.form.Form.{Form}
 use Rattle.frame.specs.Form.{layoutOf, Fair}
-use Rattle.map.specs.Frame.{Marks}
+use Rattle.chain.specs.Frame.{Marks}
 use Rattle.formats.specs.Format.{formatOf, view}
 
 -- they ask for an image whose length is right, and the needed bytes

@@ -7,13 +7,13 @@ ghost use Rattle.formats.specs.Format.{formatOf};
 ghost use Rattle.checks.specs.Tested.{Ready, Tested, Settled};
 use btree::Verdict;
 use btree::at_node;
+use chain::map_chain;
 use frame::form::Form;
 use frame::work::needed_bytes;
 use header::header_right;
 use header::length_right;
 use image::visited::clear;
-use map::bits::map_tests;
-use map::chain::map_chain;
+use map::map_tests;
 use walk::tree_tests;
 
 // Tests 2 to 10, on the bytes that the nodes need.

@@ -1,5 +1,3 @@
-pub mod Wrong
-pub mod Marks
-pub mod Links
+pub mod Bits
 pub mod Searched
 pub mod MapTests

@@ -17,8 +17,8 @@ use Rattle.btree.specs.Tests.{bitFor, bitPlace, bitTest, mapTests}
 use Rattle.btree.proofs.Decisions.{says-yes, says-no}
 use Rattle.btree.proofs.First.{unless-true, unless-false}
 use Rattle.btree.proofs.Ordered.{if-zero, if-other}
-use Rattle.map.specs.Frame.{Marks}
-use Rattle.map.proofs.Wrong.{lowest-ext}
+use Rattle.chain.specs.Frame.{Marks}
+use Rattle.map.proofs.Bits.{lowest-ext}
 
 module _ (l : Layout) (img bits ns : List ℕ) (marks : Marks bits ns) (t : Verdict) (tested : t ≡ bitTest l img (bitOf bits)) where
   lowest : bitTest l img (bitFor ns) ≡ t

@@ -22,8 +22,8 @@ use Rattle.btree.proofs.MapPlaces.{byte-header, byte-past, byte-here, byte-next
 use Rattle.frame.specs.declared.form.Form.{Form}
 use Rattle.frame.specs.Form.{layoutOf}
 use Rattle.frame.proofs.Forms.{nodes-few, fits}
-use Rattle.map.specs.Frame.{Framed}
-use Rattle.map.proofs.Wrong.{lowest-append, lowest-range}
+use Rattle.map.specs.Framed.{Framed}
+use Rattle.map.proofs.Bits.{lowest-append, lowest-range}
 
 -- the wrong bit in the map records of these nodes, the first of which starts at the map's byte `first`
 abbrev pub inRecords : Layout → List ℕ → List ℕ → ℕ → List ℕ → Option ℕ

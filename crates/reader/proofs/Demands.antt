@@ -37,7 +37,7 @@ use Rattle.reader.proofs.Compared.{digits-in}
 use Rattle.reader.proofs.Parts.{leaf-inside}
 
 module _ (form : Form) (img : List ℕ) (b : Bytes img) (k : Key) (r : InRange k) (s : Sound form img) where
-  -- a leaf record has the key where its packed key is that of the key
+  -- a leaf record has the key where its number is that of the key
   has-rank : (x : Rec) → x ∈ leafList form img → HasKey form img k x ↔ (x .key ≡ rank k)
   unfolding viewOf
   has-rank x m =

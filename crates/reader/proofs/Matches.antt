@@ -21,8 +21,8 @@ use Rattle.formats.specs.Format.{dataSize, recordAt, dataAt, view}
 use Rattle.frame.proofs.Forms.{whole-node}
 use Rattle.formats.proofs.Sizes.{record-inside}
 use Rattle.formats.proofs.Order.{InRange, Bytes, rank-same, short-start, key-range}
-use Rattle.search.specs.Seen.{seenFrom}
-use Rattle.search.proofs.Matches.{Has, seen-iff, notSeen-iff}
+use Rattle.scan.specs.Seen.{seenFrom}
+use Rattle.scan.proofs.Matches.{Has, seen-iff, notSeen-iff}
 use Rattle.reader.specs.Reader.{salvaged}
 use Rattle.reader.specs.Salvage.{Match, Searched, SalvageSays}
 

@@ -20,11 +20,11 @@ use Rattle.formats.specs.Key.{Lawful, rank, keyAt}
 use Rattle.formats.specs.Format.{recordAt, view}
 use Rattle.reader.specs.Reader.{Sound, leafList, salvaged}
 use Rattle.order.specs.Whole.{WholeLeaf}
-use Rattle.search.specs.Seen.{First}
+use Rattle.scan.specs.Seen.{First}
 use Rattle.reader.specs.Salvage.{Searched}
 use Rattle.formats.proofs.Order.{InRange, Bytes, key-range, rank-fork}
 use Rattle.reader.proofs.Parts.{leaf-level, leaf-records}
-use Rattle.search.proofs.Matches.{Has, some-seen}
+use Rattle.scan.proofs.Matches.{Has, some-seen}
 use Rattle.reader.proofs.Matches.{salvage-searched}
 
 -- the leaves of the tree

@@ -23,7 +23,7 @@ use Rattle.frame.specs.Form.{layoutOf}
 use Rattle.formats.specs.declared.key.Key.{Key}
 use Rattle.formats.specs.Key.{decLawful, rank}
 use Rattle.formats.specs.Format.{dataSize, dataAt, formatOf, view}
-use Rattle.search.specs.Seen.{seenFrom}
+use Rattle.scan.specs.Seen.{seenFrom}
 
 -- a part of the image: where it starts and how many bytes it has
 pub record Part : Type 0 where

@@ -17,7 +17,7 @@ use Rattle.formats.specs.declared.key.Key.{Key}
 use Rattle.formats.specs.Key.{Lawful, IsShort, compared, keyAt}
 use Rattle.formats.specs.Format.{recordAt, view}
 use Rattle.order.specs.Whole.{WholeLeaf}
-use Rattle.search.specs.Seen.{First}
+use Rattle.scan.specs.Seen.{First}
 
 module _ (form : Form) (img : List ℕ) (k : Key) where
   -- record i of the node n is a match

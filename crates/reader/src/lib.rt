@@ -21,8 +21,8 @@ use formats::key::sort_key;
 use formats::records::data_of;
 use frame::form::Form;
 use image::part::no_part;
+use scan::first_seen;
 use search::descent::descend;
-use search::scan::first_seen;
 
 // A lookup that is refused: no path, no key compared.
 pub fn refusal(t: Verdict) -> Lookup

@@ -1,3 +1,2 @@
 pub mod Descent
-pub mod Seen
 pub mod Rows

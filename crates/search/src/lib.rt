@@ -1,6 +1,4 @@
-// The search for a key: in a node, from the root down, and node after node of a damaged image.
+// The search for a key in a tree that has been checked: in a node, and from the root down; and for a row of keys.
 pub mod descent;
 pub mod halving;
-pub mod record;
 pub mod rows;
-pub mod scan;

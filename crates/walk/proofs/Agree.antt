@@ -31,8 +31,8 @@ use Rattle.walk.specs.Visit.{steps}
 use Rattle.step.proofs.Lands.{step-stops, step-keeps}
 use Rattle.walk.proofs.Steps.{steps-stuck}
 use Rattle.step.proofs.Fresh.{Free, free-says}
-use Rattle.map.specs.Frame.{Marks}
-use Rattle.map.proofs.Marks.{marks-more}
+use Rattle.chain.specs.Frame.{Marks}
+use Rattle.chain.proofs.Marks.{marks-more}
 
 -- what a walk that came to this state finds in all
 unfoldable pub finish : View → State → Verdict

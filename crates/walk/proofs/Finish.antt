@@ -10,8 +10,8 @@ use Rattle.btree.specs.declared.Verdict.{Verdict}
 use Rattle.btree.specs.Lists.{_∈_}
 use Rattle.btree.specs.Tree.{View, mapChain, treeNodes, reached}
 use Rattle.btree.specs.Walk.{fails, Entry, nodesOf, treeEntries, walk}
-use Rattle.map.specs.Frame.{Marks}
-use Rattle.map.proofs.Marks.{marks-same}
+use Rattle.chain.specs.Frame.{Marks}
+use Rattle.chain.proofs.Marks.{marks-same}
 use Rattle.btree.proofs.Reached.{tree-size, entry-reached, reached-entry}
 use Rattle.step.specs.declared.state.Walk.{Walk}
 use Rattle.frame.specs.declared.form.Form.{Form}

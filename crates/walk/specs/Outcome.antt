@@ -7,7 +7,7 @@ use lib.ListN.{length}
 use Rattle.btree.specs.Tree.{mapChain, reached}
 use Rattle.btree.specs.Walk.{fails, walk}
 use Rattle.frame.specs.declared.form.Form.{Form}
-use Rattle.map.specs.Frame.{Marks}
+use Rattle.chain.specs.Frame.{Marks}
 use Rattle.formats.specs.Format.{view}
 use Rattle.step.specs.declared.state.Walk.{Walk}
 use Rattle.step.specs.Ready.{Walkable}

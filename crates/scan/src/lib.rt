@@ -1,0 +1,52 @@
+// Salvage's scan: the first whole leaf that has a key, whether a tree leads to it or not.
+ghost use mathlib.Core.Path.{_≡_};
+ghost use Prim.Native.Nat.{_-_, _*_, _/_, _<_, _≤_};
+ghost use lib.ListN.{length};
+ghost use Rattle.btree.specs.Hits.{hitOf};
+ghost use Rattle.frame.specs.Form.{Fair};
+ghost use Rattle.formats.specs.Key.{rankOf};
+ghost use Rattle.nodes.specs.Inside.{NodeIn};
+ghost use Rattle.scan.specs.Seen.{seenIn, seenFrom};
+use btree::Hit;
+use btree::Salvage;
+use formats::key::SortKey;
+use formats::records::record_place;
+use frame::form::Form;
+use order::whole::is_whole;
+use record::record_with;
+
+pub mod record;
+
+fn seen_in(form: Form, image: &[u8], node: u32, key: SortKey) -> Hit
+    requires { ⌜ NodeIn form (now image) node ⌝ }
+    ensures { λ r. ⌜ r ≡ hitOf (seenIn form (now (image .entry)) (rankOf key) node) ⌝ }
+{
+    if !is_whole(form, image, node) {
+        return Hit::Nowhere;
+    }
+    record_with(form, image, node, key)
+}
+
+// How many whole nodes of this size the image has.
+fn nodes_of(size: u32, image: &[u8]) -> usize
+    requires { ⌜ 0 < size ⌝ }
+    ensures { λ r. ⌜ r ≡ length (now (image .entry)) / size ⌝ }
+{
+    image.len() / (size as usize)
+}
+
+// From node 1 up; a broken last node is not among them.
+pub fn first_seen(form: Form, image: &[u8], key: SortKey) -> Salvage
+    requires { ⌜ Fair form × (length (now image) ≤ 65536 * form .size) ⌝ }
+    ensures { λ r. ⌜ r ≡ seenFrom form (now (image .entry)) (rankOf key) 1 (length (now (image .entry)) / form .size - 1) ⌝ }
+{
+    let total = nodes_of(form.size, image) as u32;
+    let mut node: u32 = 1;
+    while node < total {
+        if let Hit::At(i) = seen_in(form, image, node, key) {
+            return Salvage::Seen(record_place(form, image, node, i));
+        }
+        node += 1;
+    }
+    Salvage::NotSeen
+}
