@@ -1,15 +1,17 @@
 /*
- * A proved reader of the extents overflow file of an HFS or HFS Plus volume.
+ * A proved reader of the extents overflow file of an HFS or HFS Plus volume, and of the catalog of an
+ * HFS volume.
  *
  * Any bytes are an image, and nobody has to have checked them first. An image is only read. No call
  * allocates, keeps anything or fails: each answers by a number and a place, and writes every element
- * of `out` and `data`, whatever the answer. `image`, `keys`, `results`, `work`, `out` and `data` do not
- * overlap, and none is NULL, not even an empty image, no keys or no working bytes.
+ * of `out` and `data`, whatever the answer. `image`, `keys`, `results`, `name`, `work`, `out` and `data`
+ * do not overlap, and none is NULL, not even an empty image, an empty name, no keys or no working bytes.
  *
- * hfs_check, hfs_lookup, hfs_lookup_many and hfs_salvage read HFS. The calls with hfs_extents_ in their
- * names read the edition and the node size that the caller says: HFS_EDITION_HFS with nodes of 512
- * bytes, or HFS_EDITION_HFS_PLUS with 512, 1,024, 2,048, 4,096, 8,192, 16,384 or 32,768. Anything else
- * is 25, before any other test.
+ * hfs_check, hfs_lookup, hfs_lookup_many and hfs_salvage read the extents overflow file of HFS. The calls
+ * with hfs_extents_ in their names read that of the edition and the node size that the caller says:
+ * HFS_EDITION_HFS with nodes of 512 bytes, or HFS_EDITION_HFS_PLUS with 512, 1,024, 2,048, 4,096, 8,192,
+ * 16,384 or 32,768. Anything else is 25, before any other test. The calls with hfs_catalog_ in their
+ * names read the catalog of HFS, with nodes of 512 bytes.
  *
  * A check and the lookups work in bytes that the caller lends, with any contents: one bit for each node
  * of the image, so HFS_WORK_BYTES(len) of them, or HFS_EXTENTS_WORK_BYTES(len, node_size), at most
@@ -35,7 +37,9 @@
  *   4   child number is 0, out of range, in the    the parent, the child number in it; for the root
  *       map chain or already met                   0, 16: the header's root field
  *   5   kind, level, reserved, count, offsets,     the node, 0
- *       key length or fork byte
+ *       key length or fork byte; in a catalog
+ *       key or name length, type, or a record
+ *       into the offset words
  *   6   key order, bounds along the path, or a     the node, where the first record starts whose key
  *       pointer key that is not its child's first  is at fault; for a pointer key the child, 14
  *   7   links                                      the node with the wrong link, 0 forward, 4 back
@@ -44,7 +48,8 @@
  *                                                  wrong bit, the byte that has it
  *  10   free count                                 0, 0
  *  11   asked key has a fork byte other than       0, 0
- *       00 or FF
+ *       00 or FF; of a catalog a name of more
+ *       than 31 bytes
  *  12   absent                                     last node read, 0; 0, 0 at depth 0
  *  13   seen                                       the node, where the record starts
  *  14   not seen                                   0, 0
@@ -54,7 +59,8 @@
  *       is not listed above
  *
  * Nodes count from 0, offsets from the node's start. Record r of a leaf starts at 14 + 20 r in HFS and
- * at 14 + 76 r in HFS Plus. Levels count from the leaves: leaves are the nodes of level 1, each child's
+ * at 14 + 76 r in HFS Plus; in a catalog, whose records differ in length, where offset word r says.
+ * Levels count from the leaves: leaves are the nodes of level 1, each child's
  * level is one less than its parent's, and the root's is the depth. Of several faults the first in the
  * order of tests is the answer: 25, 11 or 15, 1, 16, then 2 to 10.
  */
@@ -191,6 +197,45 @@ void hfs_extents_lookup(uint32_t edition, uint32_t node_size, const uint8_t *ima
 void hfs_extents_salvage(uint32_t edition, uint32_t node_size, const uint8_t *image, size_t len,
                          uint32_t file, uint8_t fork, uint32_t start, uint32_t out[3],
                          uint8_t data[64]);
+
+/*
+ * Is this catalog sound?
+ *
+ * out[0]  .. out[2]  as hfs_check has them
+ */
+void hfs_catalog_check(const uint8_t *image, size_t len, uint8_t *work, size_t work_len,
+                       uint32_t out[3]);
+
+/*
+ * What stands in a catalog under this parent number and this name of `name_len` bytes, which are MacRoman
+ * and compared by the HFS character order: a small letter a to z is its capital, and names that weigh the
+ * same are the same. The name's length is judged first, then the whole image, and only then the tree is
+ * searched.
+ *
+ * out[0]   0 found, 12 absent, else the number of the refusal: 11, or the check's own
+ * out[1]   .. out[12]  as hfs_lookup has them; the keys compared in a node are at most four
+ * out[13]  found: the record's type, 1 directory, 2 file, 3 directory thread, 4 file thread; else 0
+ * out[14]  found: how many data bytes the record has: 70, 102, 46 or 46; else 0
+ * data     found: these bytes, with their type first, then zeros; else zeros
+ */
+void hfs_catalog_lookup(const uint8_t *image, size_t len, uint32_t parent, const uint8_t *name,
+                        size_t name_len, uint8_t *work, size_t work_len, uint32_t out[15],
+                        uint8_t data[102]);
+
+/*
+ * What can be seen under this key in a catalog of any state? Seen proves no more than it does in
+ * hfs_salvage.
+ *
+ * out[0]  13 seen, 14 not seen, else the number of the refusal: 11, or 1 for an image of more than
+ *         33,554,432 bytes
+ * out[1]  seen: the node; else 0
+ * out[2]  seen: where the record starts in its node; else 0
+ * out[3]  seen: the record's type, as in hfs_catalog_lookup; else 0
+ * out[4]  seen: how many data bytes the record has; else 0
+ * data    seen: these bytes, then zeros; else zeros
+ */
+void hfs_catalog_salvage(const uint8_t *image, size_t len, uint32_t parent, const uint8_t *name,
+                         size_t name_len, uint32_t out[5], uint8_t data[102]);
 
 #ifdef __cplusplus
 }

@@ -7,8 +7,15 @@ ghost use Rattle.reader.specs.Reader as reader;
 ghost use Rattle.editions.specs.Editions.{checkedAs, lookedUpAs, salvagedAs};
 ghost use Rattle.extents.specs.Reader.{checked, Leaves, lookedUp, foundPart, salvaged, seenPart};
 ghost use Rattle.extents.specs.Many.{manyAnswer, manyResults};
-ghost use Rattle.formats.specs.Key.{asked};
-ghost use Rattle.replies.specs.Written.{dataBytes, wideBytes};
+ghost use Rattle.extent_keys.specs.Key.{asked};
+ghost use Rattle.catalog_keys.specs.Key as names;
+ghost use Rattle.catalog.specs.Reader as catalog;
+ghost use Rattle.replies.specs.Written.{dataBytes, wideBytes, allBytes};
+ghost use Rattle.catalog_replies.specs.Written.{entryNumbers, seenNumbers};
+use catalog_replies::entry_bytes;
+use catalog_replies::entry_numbers;
+use catalog_replies::seen_entry_bytes;
+use catalog_replies::seen_numbers;
 use frame::form::Form;
 use replies::found_data;
 use replies::found_wide;
@@ -39,7 +46,7 @@ pub extern "C" fn hfs_lookup(
     data: &mut [u8; 12],
 )
     ensures numbers { λ _. ⌜ now (out .exit) ≡ lookupNumbers (lookedUp (now (image .entry)) (asked file fork start) (length (now (work .entry)))) ⌝ }
-    ensures bytes { λ _. ⌜ now («data» .exit) ≡ dataBytes (now (image .entry)) (foundPart (lookedUp (now (image .entry)) (asked file fork start) (length (now (work .entry))) .answer)) ⌝ }
+    ensures bytes { λ _. ⌜ now («data» .exit) ≡ dataBytes (now (image .entry)) (foundPart (now (image .entry)) (lookedUp (now (image .entry)) (asked file fork start) (length (now (work .entry))) .answer)) ⌝ }
     ensures leaves { λ _. ⌜ Leaves (now (image .entry)) (lookupReply (lookedUp (now (image .entry)) (asked file fork start) (length (now (work .entry))) .answer) .number) (now (work .entry)) (now (work .exit)) ⌝ }
 {
     let found = extents::lookup(image, file, fork, start, work);
@@ -75,7 +82,7 @@ pub extern "C" fn hfs_salvage(
     data: &mut [u8; 12],
 )
     ensures numbers { λ _. ⌜ now (out .exit) ≡ replyNumbers (salvageReply (salvaged (now (image .entry)) (asked file fork start))) ⌝ }
-    ensures bytes { λ _. ⌜ now («data» .exit) ≡ dataBytes (now (image .entry)) (seenPart (salvaged (now (image .entry)) (asked file fork start))) ⌝ }
+    ensures bytes { λ _. ⌜ now («data» .exit) ≡ dataBytes (now (image .entry)) (seenPart (now (image .entry)) (salvaged (now (image .entry)) (asked file fork start))) ⌝ }
 {
     let seen = extents::salvage(image, file, fork, start);
     *out = salvage_reply(seen);
@@ -111,12 +118,16 @@ pub extern "C" fn hfs_extents_lookup(
     data: &mut [u8; 64],
 )
     ensures numbers { λ _. ⌜ now (out .exit) ≡ lookupNumbers (lookedUpAs (formOf edition size) (now (image .entry)) (asked file fork start) (length (now (work .entry)))) ⌝ }
-    ensures bytes { λ _. ⌜ now («data» .exit) ≡ wideBytes (now (image .entry)) (reader.foundPart (formOf edition size) (lookedUpAs (formOf edition size) (now (image .entry)) (asked file fork start) (length (now (work .entry))) .answer)) ⌝ }
+    ensures bytes { λ _. ⌜ now («data» .exit) ≡ wideBytes (now (image .entry)) (reader.foundPart (formOf edition size) (now (image .entry)) (lookedUpAs (formOf edition size) (now (image .entry)) (asked file fork start) (length (now (work .entry))) .answer)) ⌝ }
     ensures leaves { λ _. ⌜ reader.Leaves (formOf edition size) (now (image .entry)) (lookupReply (lookedUpAs (formOf edition size) (now (image .entry)) (asked file fork start) (length (now (work .entry))) .answer) .number) (now (work .entry)) (now (work .exit)) ⌝ }
 {
     let found = editions::lookup(edition, size, image, file, fork, start, work);
     let answer = found.answer;
-    let form = Form { edition, size };
+    let form = Form {
+        edition,
+        tree: 0,
+        size,
+    };
     *out = lookup_numbers(found);
     *data = found_wide(form, image, answer);
 }
@@ -134,10 +145,60 @@ pub extern "C" fn hfs_extents_salvage(
     data: &mut [u8; 64],
 )
     ensures numbers { λ _. ⌜ now (out .exit) ≡ replyNumbers (salvageReply (salvagedAs (formOf edition size) (now (image .entry)) (asked file fork start))) ⌝ }
-    ensures bytes { λ _. ⌜ now («data» .exit) ≡ wideBytes (now (image .entry)) (reader.seenPart (formOf edition size) (salvagedAs (formOf edition size) (now (image .entry)) (asked file fork start))) ⌝ }
+    ensures bytes { λ _. ⌜ now («data» .exit) ≡ wideBytes (now (image .entry)) (reader.seenPart (formOf edition size) (now (image .entry)) (salvagedAs (formOf edition size) (now (image .entry)) (asked file fork start))) ⌝ }
 {
     let seen = editions::salvage(edition, size, image, file, fork, start);
-    let form = Form { edition, size };
+    let form = Form {
+        edition,
+        tree: 0,
+        size,
+    };
     *out = salvage_reply(seen);
     *data = seen_wide(form, image, seen);
+}
+
+// Of a catalog: number, node, offset.
+#[no_mangle]
+pub extern "C" fn hfs_catalog_check(image: &[u8], work: &mut [u8], out: &mut [u32; 3])
+    ensures numbers { λ _. ⌜ now (out .exit) ≡ replyNumbers (catalog.checked (now (image .entry)) (length (now (work .entry)))) ⌝ }
+    ensures leaves { λ _. ⌜ catalog.Leaves (now (image .entry)) (catalog.checked (now (image .entry)) (length (now (work .entry))) .number) (now (work .entry)) (now (work .exit)) ⌝ }
+{
+    *out = verdict_numbers(catalog::check(image, work));
+}
+
+// Of a catalog: number, node, offset, keys compared, path length, eight nodes of the path, type, data size; and the record's data.
+#[no_mangle]
+pub extern "C" fn hfs_catalog_lookup(
+    image: &[u8],
+    parent: u32,
+    name: &[u8],
+    work: &mut [u8],
+    out: &mut [u32; 15],
+    data: &mut [u8; 102],
+)
+    ensures numbers { λ _. ⌜ now (out .exit) ≡ entryNumbers (catalog.lookedUp (now (image .entry)) (names.asked parent (now (name .entry))) (length (now (work .entry)))) ⌝ }
+    ensures bytes { λ _. ⌜ now («data» .exit) ≡ allBytes (now (image .entry)) (catalog.foundPart (now (image .entry)) (catalog.lookedUp (now (image .entry)) (names.asked parent (now (name .entry))) (length (now (work .entry))) .answer)) ⌝ }
+    ensures leaves { λ _. ⌜ catalog.Leaves (now (image .entry)) (catalog.lookupReply (catalog.lookedUp (now (image .entry)) (names.asked parent (now (name .entry))) (length (now (work .entry))) .answer) .number) (now (work .entry)) (now (work .exit)) ⌝ }
+{
+    let found = catalog::lookup(image, parent, name, work);
+    let answer = found.answer;
+    *out = entry_numbers(found);
+    *data = entry_bytes(image, answer);
+}
+
+// Of a catalog: number, node, offset, type, data size; and the record's data.
+#[no_mangle]
+pub extern "C" fn hfs_catalog_salvage(
+    image: &[u8],
+    parent: u32,
+    name: &[u8],
+    out: &mut [u32; 5],
+    data: &mut [u8; 102],
+)
+    ensures numbers { λ _. ⌜ now (out .exit) ≡ seenNumbers (catalog.salvaged (now (image .entry)) (names.asked parent (now (name .entry)))) ⌝ }
+    ensures bytes { λ _. ⌜ now («data» .exit) ≡ allBytes (now (image .entry)) (catalog.seenPart (now (image .entry)) (catalog.salvaged (now (image .entry)) (names.asked parent (now (name .entry))))) ⌝ }
+{
+    let seen = catalog::salvage(image, parent, name);
+    *out = seen_numbers(seen);
+    *data = seen_entry_bytes(image, seen);
 }

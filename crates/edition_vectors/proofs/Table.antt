@@ -12,9 +12,11 @@ use Rattle.btree.specs.Search.{halvedIn, lookupOf}
 use Rattle.btree.specs.Image.{mapBytes}
 use Rattle.btree.specs.Tests.{decDescriptor, decNoTree, wrongIn, lowestWrong, bitFor, decLengths, decMapNode, decHeaderNode, chainFrom, mapRecordPlace, mapBytePlace, bitTest, mapTests, verdict}
 use Rattle.btree.specs.Work.{bitsFor, checked, neededLeft, workLeft}
-use Rattle.frame.specs.Form.{decListed, keyLength, nodeMapOf}
-use Rattle.formats.specs.Key.{decLawful, keyAt, rank}
-use Rattle.formats.specs.Format.{kindOn, keySize, dataSize, recordSize, kindOf, recordOffset, lengthAt, decRecords, decNodeOn}
+use Rattle.frame.specs.Form.{decListed, keyLength, nodeMapOf, keySize}
+use Rattle.extent_keys.specs.Key.{decLawful, keyAt, rank}
+use Rattle.frame.specs.Kinds.{kindOn, kindOf}
+use Rattle.extent_nodes.specs.Records.{dataSize, recordSize, lengthAt, decKeyLaw, decExtentRecords}
+use Rattle.formats.specs.Format.{recordOffset, decRecords, decNodeOn}
 use Rattle.order.specs.Whole.{decWholeLeaf}
 use Rattle.scan.specs.Seen.{seenIn, seenFrom}
 use Rattle.reader.specs.Reader.{salvaged}
@@ -23,6 +25,6 @@ use Rattle.vectors.specs.Build.{All}
 use Rattle.edition_vectors.specs.Table.{Right, editions}
 
 pub editions-right : All Right editions
-unfolding Dec·and Dec·not decLe decLt ℕ-discrete be16At be32At says map-dec decImp decOr decMem decAll firstNot decIfSome decFresh decKeyRight wrongKey decLeads decTotals test ends closing walk halving halved halvedIn lookupOf mapBytes decDescriptor decNoTree wrongIn lowestWrong bitFor decLengths decMapNode decHeaderNode chainFrom mapRecordPlace mapBytePlace bitTest mapTests verdict bitsFor checked neededLeft workLeft decListed decLawful keyAt rank keyLength nodeMapOf kindOn keySize dataSize recordSize kindOf recordOffset lengthAt decRecords decNodeOn viewOf decWholeLeaf seenIn seenFrom salvaged checkedAs lookedUpAs salvagedAs
+unfolding Dec·and Dec·not decLe decLt ℕ-discrete be16At be32At says map-dec decImp decOr decMem decAll firstNot decIfSome decFresh decKeyRight wrongKey decLeads decTotals test ends closing walk halving halved halvedIn lookupOf mapBytes decDescriptor decNoTree wrongIn lowestWrong bitFor decLengths decMapNode decHeaderNode chainFrom mapRecordPlace mapBytePlace bitTest mapTests verdict bitsFor checked neededLeft workLeft decListed decLawful keyAt rank keyLength nodeMapOf kindOn keySize dataSize recordSize kindOf recordOffset lengthAt decKeyLaw decExtentRecords decRecords decNodeOn viewOf decWholeLeaf seenIn seenFrom salvaged checkedAs lookedUpAs salvagedAs
 editions-right =
     (refl, (refl, (refl, (refl, (refl, (refl, (refl, (refl, (refl, (refl, (refl, (refl, (refl, (refl, (refl, (refl, (refl, (refl, (refl, (refl, (refl, (refl, (refl, (refl, (refl, (refl, (refl, (refl, (refl, (refl, (refl, (refl, (refl, (refl, (refl, (refl, (refl, tt)))))))))))))))))))))))))))))))))))))

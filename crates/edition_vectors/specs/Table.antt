@@ -10,8 +10,8 @@ use Rattle.btree.specs.Numbers.{lookupNumbers, salvageReply}
 use Rattle.btree.specs.Work.{workLeft}
 use Rattle.frame.specs.declared.form.Form.{Form}
 use Rattle.frame.specs.Form.{formOf, layoutOf}
-use Rattle.formats.specs.declared.key.Key.{Key}
-use Rattle.formats.specs.Key.{asked}
+use Rattle.extent_keys.specs.declared.key.Key.{Key}
+use Rattle.extent_keys.specs.Key.{asked}
 use Rattle.formats.specs.Format.{formatOf}
 use Rattle.reader.specs.Reader.{needed}
 use Rattle.editions.specs.Editions.{checkedAs, lookedUpAs, salvagedAs}

@@ -18,11 +18,13 @@ use Rattle.btree.proofs.Decisions.{cond-yes, cond-no}
 use Rattle.btree.proofs.Checked.{checked-not}
 use Rattle.frame.specs.declared.form.Form.{Form}
 use Rattle.frame.specs.Form.{Listed, decListed, layoutOf}
-use Rattle.formats.specs.declared.key.Key.{Key}
+use Rattle.extent_keys.specs.declared.key.Key.{Key}
+use Rattle.extent_keys.proofs.Order.{InRange, Bytes, short-start}
 use Rattle.formats.specs.Format.{formatOf}
 use Rattle.reader.specs.Reader as reader
 use Rattle.reader.specs.Demands as demands
 use Rattle.reader.specs.Salvage as salvage
+use Rattle.editions.specs.Asked.{ofKey}
 use Rattle.editions.specs.Editions.{checkedAs, lookedUpAs, salvagedAs, CheckSays, LookupSays, SalvageSays}
 
 module _ (form : Form) (img : List ℕ) where
@@ -32,11 +34,11 @@ module _ (form : Form) (img : List ℕ) where
     unfolding checkedAs
     check-listed lent = cond-yes (decListed form) _ _ l
 
-    pub lookup-listed : (k : Key) (lent : ℕ) → lookedUpAs form img k lent ≡ reader.lookedUp form img k lent
+    pub lookup-listed : (k : Key) (lent : ℕ) → lookedUpAs form img k lent ≡ reader.lookedUp form img (ofKey form k) lent
     unfolding lookedUpAs
     lookup-listed k lent = cond-yes (decListed form) _ _ l
 
-    pub salvage-listed : (k : Key) → salvagedAs form img k ≡ reader.salvaged form img k
+    pub salvage-listed : (k : Key) → salvagedAs form img k ≡ reader.salvaged form img (ofKey form k)
     unfolding salvagedAs
     salvage-listed k = cond-yes (decListed form) _ _ l
 
@@ -48,11 +50,24 @@ module _ (form : Form) (img : List ℕ) where
           onlyUnlisted = λ z _. checked-not (layoutOf form) img (formatOf form) lent 25 (omega arith) (λ q. omega arith) (ap (λ (v : Verdict). v .number) (sym e) ∙ z);
         }
 
-    pub says-lookup : (k : Key) (lent : ℕ) (r : Lookup) → (lookupReply (r .answer) .number ≡ 25 → ⊥) → demands.LookupSays form img k lent r → LookupSays form img k lent r
-    says-lookup k lent r n s = record { ofUnlisted = λ u. absurd (u l); ofListed = λ _. s; onlyUnlisted = λ z _. n z }
+    module _ (b : Bytes img) (k : Key) (range : InRange k) where
+      pub says-lookup : (lent : ℕ) (r : Lookup) → (lookupReply (r .answer) .number ≡ 25 → ⊥) → demands.LookupSays form img (ofKey form k) lent r → LookupSays form img k lent r
+      says-lookup lent r n s =
+          record {
+            ofUnlisted = λ u. absurd (u l);
+            ofListed = λ _. s;
+            longStart = λ _ e long lawful sound enough. s .ofSound sound lawful enough .absent .1 (λ x m h. long (short-start form img b k range _ e h));
+            onlyUnlisted = λ z _. n z;
+          }
 
-    pub says-salvage : (k : Key) (r : Salvage) → salvage.SalvageSays form img k r → SalvageSays form img k r
-    says-salvage k r s = record { ofUnlisted = λ n. absurd (n l); ofListed = λ _. s }
+      pub says-salvage : (r : Salvage) → (r ≡ Refused 25 imageStart → ⊥) → salvage.SalvageSays form img (ofKey form k) r → SalvageSays form img k r
+      says-salvage r n s =
+          record {
+            ofUnlisted = λ u. absurd (u l);
+            ofListed = λ _. s;
+            longStart = λ _ e long w. s .notSeen w .1 (λ m i h. long (short-start form img b k range _ e (h .isKey)));
+            onlyUnlisted = λ z _. n z;
+          }
 
   module _ (n : Listed form → ⊥) where
     pub check-unlisted : (lent : ℕ) → checkedAs form img lent ≡ fails 25 imageStart
@@ -71,10 +86,10 @@ module _ (form : Form) (img : List ℕ) where
     refuses-check lent r e = record { ofUnlisted = λ _. e; ofListed = λ l. absurd (n l); onlyUnlisted = λ _ l. n l }
 
     pub refuses-lookup : (k : Key) (lent : ℕ) (r : Lookup) → r ≡ refused 25 imageStart → LookupSays form img k lent r
-    refuses-lookup k lent r e = record { ofUnlisted = λ _. e; ofListed = λ l. absurd (n l); onlyUnlisted = λ _ l. n l }
+    refuses-lookup k lent r e = record { ofUnlisted = λ _. e; ofListed = λ l. absurd (n l); longStart = λ l. absurd (n l); onlyUnlisted = λ _ l. n l }
 
     pub refuses-salvage : (k : Key) (r : Salvage) → r ≡ Refused 25 imageStart → SalvageSays form img k r
-    refuses-salvage k r e = record { ofUnlisted = λ _. e; ofListed = λ l. absurd (n l) }
+    refuses-salvage k r e = record { ofUnlisted = λ _. e; ofListed = λ l. absurd (n l); longStart = λ l. absurd (n l); onlyUnlisted = λ _ l. n l }
 
   -- nothing is found or seen but in an image of a listed form
   pub found-listed : (k : Key) (lent : ℕ) (p : Place) → lookedUpAs form img k lent .answer ≡ Found p → Listed form

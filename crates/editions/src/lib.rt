@@ -3,7 +3,7 @@ ghost use mathlib.Core.Path.{_≡_};
 ghost use lib.ListN.{length};
 ghost use Rattle.btree.specs.Numbers.{lookupReply};
 ghost use Rattle.frame.specs.Form.{formOf};
-ghost use Rattle.formats.specs.Key.{asked};
+ghost use Rattle.extent_keys.specs.Key.{asked};
 ghost use Rattle.reader.specs.Reader.{Leaves, foundPart, seenPart};
 ghost use Rattle.reader.specs.Demands.{PartOf};
 ghost use Rattle.editions.specs.Editions.{checkedAs, lookedUpAs, salvagedAs, CheckSays, LookupSays, SalvageSays};
@@ -12,6 +12,8 @@ use btree::Place;
 use btree::Salvage;
 use btree::Verdict;
 use btree::at_node;
+use extent_keys::key::is_lawful;
+use extent_keys::key::sort_key;
 use frame::form::Form;
 use frame::form::is_listed;
 use image::part::no_part;
@@ -27,7 +29,11 @@ pub fn check(edition: u32, size: u32, image: &[u8], work: &mut [u8]) -> Verdict
     if !is_listed(edition, size) {
         return at_node(25, 0);
     }
-    let form = Form { edition, size };
+    let form = Form {
+        edition,
+        tree: 0,
+        size,
+    };
     checks::check(form, image, work)
 }
 
@@ -48,8 +54,14 @@ pub fn lookup(
     if !is_listed(edition, size) {
         return refusal(at_node(25, 0));
     }
-    let form = Form { edition, size };
-    reader::lookup(form, image, file, fork, start, work)
+    let form = Form {
+        edition,
+        tree: 0,
+        size,
+    };
+    let lawful = is_lawful(fork as u32);
+    let key = sort_key(file, fork, start);
+    reader::lookup(form, image, lawful, key, no_part(image), work)
 }
 
 // The data bytes of the record that a lookup finds, 12 in HFS and 64 in HFS Plus, or else the empty part at the image's start.
@@ -62,14 +74,20 @@ pub fn lookup_part<'a>(
     start: u32,
     work: &mut [u8],
 ) -> &'a [u8]
-    ensures part { λ r. ⌜ PartOf (image .entry) r (foundPart (formOf edition size) (lookedUpAs (formOf edition size) (now (image .entry)) (asked file fork start) (length (now (work .entry))) .answer)) ⌝ }
+    ensures part { λ r. ⌜ PartOf (image .entry) r (foundPart (formOf edition size) (now (image .entry)) (lookedUpAs (formOf edition size) (now (image .entry)) (asked file fork start) (length (now (work .entry))) .answer)) ⌝ }
     ensures leaves { λ _. ⌜ Leaves (formOf edition size) (now (image .entry)) (lookupReply (lookedUpAs (formOf edition size) (now (image .entry)) (asked file fork start) (length (now (work .entry))) .answer) .number) (now (work .entry)) (now (work .exit)) ⌝ }
 {
     if !is_listed(edition, size) {
         return no_part(image);
     }
-    let form = Form { edition, size };
-    reader::lookup_part(form, image, file, fork, start, work)
+    let form = Form {
+        edition,
+        tree: 0,
+        size,
+    };
+    let lawful = is_lawful(fork as u32);
+    let key = sort_key(file, fork, start);
+    reader::lookup_part(form, image, lawful, key, no_part(image), work)
 }
 
 // The first record with the key in any whole leaf from node 1 up, in the tree or not. Seen proves nothing: a freed node may hold an old record.
@@ -80,8 +98,14 @@ pub fn salvage(edition: u32, size: u32, image: &[u8], file: u32, fork: u8, start
     if !is_listed(edition, size) {
         return Salvage::Refused(25, Place { node: 0, offset: 0 });
     }
-    let form = Form { edition, size };
-    reader::salvage(form, image, file, fork, start)
+    let form = Form {
+        edition,
+        tree: 0,
+        size,
+    };
+    let lawful = is_lawful(fork as u32);
+    let key = sort_key(file, fork, start);
+    reader::salvage(form, image, lawful, key, no_part(image))
 }
 
 // The data bytes of the record that `salvage` sees; else the empty part at the image's start.
@@ -93,11 +117,17 @@ pub fn salvage_part<'a>(
     fork: u8,
     start: u32,
 ) -> &'a [u8]
-    ensures { λ r. ⌜ PartOf (image .entry) r (seenPart (formOf edition size) (salvagedAs (formOf edition size) (now (image .entry)) (asked file fork start))) ⌝ }
+    ensures { λ r. ⌜ PartOf (image .entry) r (seenPart (formOf edition size) (now (image .entry)) (salvagedAs (formOf edition size) (now (image .entry)) (asked file fork start))) ⌝ }
 {
     if !is_listed(edition, size) {
         return no_part(image);
     }
-    let form = Form { edition, size };
-    reader::salvage_part(form, image, file, fork, start)
+    let form = Form {
+        edition,
+        tree: 0,
+        size,
+    };
+    let lawful = is_lawful(fork as u32);
+    let key = sort_key(file, fork, start);
+    reader::salvage_part(form, image, lawful, key, no_part(image))
 }

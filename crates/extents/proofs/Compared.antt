@@ -1,5 +1,6 @@
 -- How many keys a lookup compares in an HFS image, as W-202 words it: at most six in a node.
 -- Assumes nothing.
+use mathlib.Core.Path.{refl}
 use mathlib.Core.List.{List}
 use Prim.Native.Nat.{ℕ, _*_, _^_, _≤_, _<_}
 use native.Mathlib.Nat.{mul-le-mul-left}
@@ -12,8 +13,10 @@ use Rattle.btree.specs.Search.{pathOf, halvedIn, comparedOf}
 use Rattle.btree.proofs.Paths.{path-on}
 use Rattle.btree.proofs.Halving.{compared-few}
 use Rattle.frame.specs.Form.{hfs}
-use Rattle.formats.specs.Format.{recordSize, Holds, kindOn, levelOf}
-use Rattle.formats.proofs.Sizes.{key-some, size-some}
+use Rattle.frame.specs.Kinds.{kindOn, levelOf}
+use Rattle.extent_nodes.specs.Records.{recordSize, Holds}
+use Rattle.frame.proofs.Forms.{key-some}
+use Rattle.extent_nodes.proofs.Sizes.{size-some}
 use Rattle.reader.proofs.Compared.{digits-in}
 use Rattle.extents.specs.Reader.{view, Sound}
 
@@ -29,7 +32,7 @@ module _ (img : List ℕ) (s : Sound img) where
   -- which is less than 2 to the power of six
   node-few : (d n : ℕ) → OnLevel (view img) d n → view img .count n < 2 ^ 6
   unfolding viewOf
-  node-few d n o = let f = holds-few (kindOn (levelOf hfs img n)) _ (s .nodes d n o .records .few) in omega arith
+  node-few d n o = let f = holds-few (kindOn (levelOf hfs img n)) _ (s .nodes d n o .records .extents refl .few) in omega arith
 
   -- "at most six in a 512-byte node"
   pub six-in-path : (k n : ℕ) → n ∈ pathOf (view img) k → halvedIn (view img) k n .compared ≤ 6

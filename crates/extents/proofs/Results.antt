@@ -17,34 +17,37 @@ use Rattle.btree.specs.Search.{placeOf, answerOf}
 use Rattle.btree.proofs.Decisions.{cond-yes, cond-no}
 use Rattle.btree.proofs.Answers.{descent-answers}
 use Rattle.btree.proofs.Checked.{check-says}
-use Rattle.frame.specs.Form.{hfs, layoutOf}
+use Rattle.frame.specs.Form.{hfs, layoutOf, keySize}
 use Rattle.frame.proofs.Forms.{hfs-listed, fair, fits}
-use Rattle.formats.specs.declared.key.Key.{Key}
-use Rattle.formats.specs.Key.{rank, packed, IsShort, unpacked, keyLimit, IsKey, decKey}
-use Rattle.formats.specs.Format.{keySize, dataSize, formatOf}
-use Rattle.formats.proofs.Order.{InRange, Bytes, unpacked-range, unpacked-packed}
+use Rattle.extent_keys.specs.declared.key.Key.{Key}
+use Rattle.extent_keys.specs.Key.{rank, packed, IsShort, unpacked, keyLimit, IsKey, decKey}
+use Rattle.extent_nodes.specs.Records.{dataSize}
+use Rattle.formats.specs.Format.{formatOf}
+use Rattle.extent_keys.proofs.Order.{InRange, Bytes, unpacked-range, unpacked-packed}
 use Rattle.search.specs.Rows.{resultOf, resultIn}
 use Rattle.search.proofs.Filled.{result-no-key, result-key}
 use Rattle.extents.specs.Reader.{view, Sound, needed, checked, lookedUp, leafList, dataPart}
 use Rattle.reader.specs.Demands.{SoundAnswer}
 use Rattle.extents.specs.Demands.{HasKey}
 use Rattle.extents.specs.Many.{result, ResultSays}
-use Rattle.reader.proofs.Demands.{found-inside, lookup-unlawful, lookup-answers, lookup-says}
+use Rattle.reader.proofs.Demands.{answer-inside, lookup-unlawful, lookup-answers, lookup-says}
+use Rattle.editions.specs.Asked.{ofKey}
+use Rattle.editions.proofs.Asked.{means}
 
 -- a place of data is never 0 or 1, so that the three cases of a result cannot be mistaken
-pub place-apart : (p : Place) → 2 ≤ dataPart p .at
+pub place-apart : (img : List ℕ) (p : Place) → 2 ≤ dataPart img p .at
 unfolding keySize
-place-apart p = omega arith
+place-apart img p = omega arith
 
 -- the single lookup of a key by its three numbers, and the result of its packed number
-pub as-single : (img : List ℕ) (lent : ℕ) (k : Key) → InRange k → IsShort k → k .file < 4294967296 → result img lent (packed k) ≡ resultOf (lookedUp img k lent .answer)
+pub as-single : (img : List ℕ) (lent : ℕ) (k : Key) → InRange k → IsShort k → k .file < 4294967296 → result img lent (packed k) ≡ resultOf img (lookedUp img k lent .answer)
 unfolding result packed
 as-single img lent k r b h =
     let a = r .fork in
-    cond-yes (decLt (packed k) _) _ _ (omega arith) ∙ ap (λ (j : Key). resultOf (lookedUp img j lent .answer)) (unpacked-packed k r b)
+    cond-yes (decLt (packed k) _) _ _ (omega arith) ∙ ap (λ (j : Key). resultOf img (lookedUp img j lent .answer)) (unpacked-packed k r b)
 
 module _ (img : List ℕ) (b : Bytes img) (lent number : ℕ) where
-  single : number < keyLimit → result img lent number ≡ resultOf (lookedUp img (unpacked number) lent .answer)
+  single : number < keyLimit → result img lent number ≡ resultOf img (lookedUp img (unpacked number) lent .answer)
   unfolding result
   single h = cond-yes (decLt number _) _ _ (omega arith)
 
@@ -54,14 +57,14 @@ module _ (img : List ℕ) (b : Bytes img) (lent number : ℕ) where
     where
       go : Dec (number < keyLimit) → result img lent number ≡ 1
       go (yes l) =
-          single l ∙ ap (λ (x : Lookup). resultOf (x .answer)) (lookup-unlawful hfs (fair hfs hfs-listed) img b (unpacked number) (unpacked-range number) lent (λ f. h (l, f)))
+          single l ∙ ap (λ (x : Lookup). resultOf img (x .answer)) (lookup-unlawful hfs (fair hfs hfs-listed) img (ofKey hfs (unpacked number)) lent (λ f. h (l, f)))
       go (no l) = cond-no (decLt number _) _ _ (λ h. omega arith)
 
   module _ (z : checked img lent .number ≡ 0) where
     -- the result of a key goes by what the descent answers
-    descends : IsKey number → result img lent number ≡ resultOf (answerOf (view img) (rank (unpacked number)))
+    descends : IsKey number → result img lent number ≡ resultOf img (answerOf (view img) (rank (unpacked number)))
     descends h =
-        single (h .0) ∙ ap (λ (x : Lookup). resultOf (x .answer)) (lookup-answers hfs (fair hfs hfs-listed) img b (unpacked number) (unpacked-range number) lent (h .1) z)
+        single (h .0) ∙ ap (λ (x : Lookup). resultOf img (x .answer)) (lookup-answers hfs (fair hfs hfs-listed) img (ofKey hfs (unpacked number)) lent (h .1) z)
 
     -- which is what a row is filled with
     pub result-is : resultIn img number ≡ result img lent number
@@ -78,14 +81,14 @@ module _ (img : List ℕ) (b : Bytes img) (lent number : ℕ) where
       abbrev looked : Lookup
       looked = lookedUp img (unpacked number) lent
 
-      answers : SoundAnswer hfs img (unpacked number) looked
-      answers = lookup-says hfs (fair hfs hfs-listed) img b (unpacked number) (unpacked-range number) lent .ofSound (sound .0) (h .1) (sound .1)
+      answers : SoundAnswer hfs img (ofKey hfs (unpacked number)) looked
+      answers = lookup-says hfs (fair hfs hfs-listed) img (ofKey hfs (unpacked number)) lent (means 0 512 img (unpacked number) b (unpacked-range number)) .ofSound (sound .0) (h .1) (sound .1)
 
-      is : (a : Answer) → looked .answer ≡ a → result img lent number ≡ resultOf a
-      is a e = single (h .0) ∙ ap resultOf e
+      is : (a : Answer) → looked .answer ≡ a → result img lent number ≡ resultOf img a
+      is a e = single (h .0) ∙ ap (resultOf img) e
 
       abbrev IsFound : Type 0
-      IsFound = (p : Place) × (looked .answer ≡ Found p) × (result img lent number ≡ dataPart p .at)
+      IsFound = (p : Place) × (looked .answer ≡ Found p) × (result img lent number ≡ dataPart img p .at)
 
       abbrev IsAbsent : Type 0
       IsAbsent = (n : ℕ) × (looked .answer ≡ Absent n) × (result img lent number ≡ 0)
@@ -99,27 +102,27 @@ module _ (img : List ℕ) (b : Bytes img) (lent number : ℕ) where
           go (Absent n) e = inr (n, e, is (Absent n) e)
           go (Refused n o) e =
               absurd (descent-answers (view img) (rank (unpacked number)) n o
-              (sym (ap (λ (l : Lookup). l .answer) (lookup-answers hfs (fair hfs hfs-listed) img b (unpacked number) (unpacked-range number) lent (h .1) z)) ∙ e))
+              (sym (ap (λ (l : Lookup). l .answer) (lookup-answers hfs (fair hfs hfs-listed) img (ofKey hfs (unpacked number)) lent (h .1) z)) ∙ e))
 
       not-1 : result img lent number ≡ 1 → ⊥
-      not-1 q = ⊎-elim (λ (p, e, r). let a = place-apart p in omega arith) (λ (n, e, r). omega arith) either
+      not-1 q = ⊎-elim (λ (p, e, r). let a = place-apart img p in omega arith) (λ (n, e, r). omega arith) either
 
       inside : 2 ≤ result img lent number → result img lent number + 12 ≤ length img
       unfolding dataSize
       inside q =
-          ⊎-elim (λ (p, e, r). let a = found-inside hfs (fair hfs hfs-listed) img b (unpacked number) (unpacked-range number) lent p e in omega arith)
+          ⊎-elim (λ (p, e, r). let a = answer-inside hfs (fair hfs hfs-listed) img (sound .0) (rank (unpacked number)) p (sym (ap (λ (l : Lookup). l .answer) (lookup-answers hfs (fair hfs hfs-listed) img (ofKey hfs (unpacked number)) lent (h .1) z)) ∙ e) in omega arith)
           (λ (n, e, r). absurd (omega arith)) either
 
-      found : (p : ℕ) → ((result img lent number ≡ p) × (2 ≤ p)) → (x : Rec) × (x ∈ leafList img) × (HasKey img (unpacked number) x) × (dataPart (placeOf x) .at ≡ p)
+      found : (p : ℕ) → ((result img lent number ≡ p) × (2 ≤ p)) → (x : Rec) × (x ∈ leafList img) × (HasKey img (unpacked number) x) × (dataPart img (placeOf x) .at ≡ p)
       found p (q, u) =
-          ⊎-elim (λ (o, e, r). let (x, m, k, w) = answers .found o .0 e in (x, m, k, ap (λ (o : Place). dataPart o .at) w ∙ sym r ∙ q))
+          ⊎-elim (λ (o, e, r). let (x, m, k, w) = answers .found o .0 e in (x, m, k, ap (λ (o : Place). dataPart img o .at) w ∙ sym r ∙ q))
           (λ (n, e, r). absurd (omega arith)) either
 
-      finds : (p : ℕ) → ((x : Rec) × (x ∈ leafList img) × (HasKey img (unpacked number) x) × (dataPart (placeOf x) .at ≡ p)) → (result img lent number ≡ p) × (2 ≤ p)
-      finds p (x, m, k, w) = let a = place-apart (placeOf x) in (is (Found (placeOf x)) (answers .found (placeOf x) .1 (x, m, k, refl)) ∙ w, omega arith)
+      finds : (p : ℕ) → ((x : Rec) × (x ∈ leafList img) × (HasKey img (unpacked number) x) × (dataPart img (placeOf x) .at ≡ p)) → (result img lent number ≡ p) × (2 ≤ p)
+      finds p (x, m, k, w) = let a = place-apart img (placeOf x) in (is (Found (placeOf x)) (answers .found (placeOf x) .1 (x, m, k, refl)) ∙ w, omega arith)
 
       none : result img lent number ≡ 0 → (x : Rec) → x ∈ leafList img → HasKey img (unpacked number) x → ⊥
-      none q = ⊎-elim (λ (p, e, r). let a = place-apart p in absurd (omega arith)) (λ (n, e, r). answers .absent .0 (n, e)) either
+      none q = ⊎-elim (λ (p, e, r). let a = place-apart img p in absurd (omega arith)) (λ (n, e, r). answers .absent .0 (n, e)) either
 
       absents : ((x : Rec) → x ∈ leafList img → HasKey img (unpacked number) x → ⊥) → result img lent number ≡ 0
       absents f = let (n, e) = answers .absent .1 f in is (Absent n) e

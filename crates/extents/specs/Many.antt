@@ -13,14 +13,14 @@ use Rattle.btree.specs.Decide.{cond, says, ifZero}
 use Rattle.btree.specs.Tree.{Rec}
 use Rattle.btree.specs.Walk.{fails, unless}
 use Rattle.btree.specs.Search.{placeOf}
-use Rattle.formats.specs.Key.{unpacked, keyLimit, IsKey}
+use Rattle.extent_keys.specs.Key.{unpacked, keyLimit, IsKey}
 use Rattle.search.specs.Rows.{resultOf, filled}
 use Rattle.extents.specs.Reader.{checked, CheckSays, leafList, lookedUp, dataPart}
 use Rattle.extents.specs.Demands.{HasKey}
 
 -- "Each result says what the single lookup says"; 1 for a number "which is 2 to the 56 or more", as no single lookup is asked by it
 unfoldable pub result : List ℕ → ℕ → ℕ → ℕ
-result img lent number = cond (decLt number keyLimit) (resultOf (lookedUp img (unpacked number) lent .answer)) 1
+result img lent number = cond (decLt number keyLimit) (resultOf img (lookedUp img (unpacked number) lent .answer)) 1
 
 module _ (img keys results : List ℕ) (lent : ℕ) where
   -- "A result row shorter than the key row is refused as 15, tested before the check"; "numbers from 15 up have place 0"
@@ -37,7 +37,7 @@ pub record ResultSays (img : List ℕ) (number r : ℕ) : Type 0 where
   pub noKey : (r ≡ 1) ↔ (IsKey number → ⊥)
   -- found exactly when one of the leaf records has the key: "the byte place of the 12 data bytes"
   pub found : IsKey number → (p : ℕ) →
-      ((r ≡ p) × (2 ≤ p)) ↔ ((x : Rec) × (x ∈ leafList img) × (HasKey img (unpacked number) x) × (dataPart (placeOf x) .at ≡ p))
+      ((r ≡ p) × (2 ≤ p)) ↔ ((x : Rec) × (x ∈ leafList img) × (HasKey img (unpacked number) x) × (dataPart img (placeOf x) .at ≡ p))
   -- and the image has these 12 bytes
   pub inside : 2 ≤ r → r + 12 ≤ length img
   -- "0 for absent": exactly when none has it

@@ -9,9 +9,10 @@ use Rattle.btree.specs.declared.Lookup.{Lookup}
 use Rattle.btree.specs.declared.Salvage.{Salvage}
 use Rattle.btree.specs.Tree.{Rec, View}
 use Rattle.frame.specs.Form.{hfs}
-use Rattle.formats.specs.declared.key.Key.{Key}
+use Rattle.extent_keys.specs.declared.key.Key.{Key}
 use Rattle.formats.specs.Format as format
 use Rattle.reader.specs.Reader as reader
+use Rattle.editions.specs.Asked.{ofKey}
 
 abbrev pub view : List ℕ → View
 view img = format.view hfs img
@@ -46,21 +47,21 @@ abbrev pub leafList : List ℕ → List Rec
 leafList img = reader.leafList hfs img
 
 abbrev pub searchPath : List ℕ → Key → List ℕ
-searchPath img k = reader.searchPath hfs img k
+searchPath img k = reader.searchPath hfs img (ofKey hfs k)
 
 abbrev pub lookedUp : List ℕ → Key → ℕ → Lookup
-lookedUp img k lent = reader.lookedUp hfs img k lent
+lookedUp img k lent = reader.lookedUp hfs img (ofKey hfs k) lent
 
 -- "Found hands back the 12 data bytes as a part of the image; every other answer hands back the empty part at its start."
-abbrev pub dataPart : Place → reader.Part
-dataPart p = reader.dataPart hfs p
+abbrev pub dataPart : List ℕ → Place → reader.Part
+dataPart img p = reader.dataPart hfs img p
 
-abbrev pub foundPart : Answer → reader.Part
-foundPart a = reader.foundPart hfs a
+abbrev pub foundPart : List ℕ → Answer → reader.Part
+foundPart img a = reader.foundPart hfs img a
 
 abbrev pub salvaged : List ℕ → Key → Salvage
-salvaged img k = reader.salvaged hfs img k
+salvaged img k = reader.salvaged hfs img (ofKey hfs k)
 
 -- "The first match is seen, data as a part of the image."
-abbrev pub seenPart : Salvage → reader.Part
-seenPart s = reader.seenPart hfs s
+abbrev pub seenPart : List ℕ → Salvage → reader.Part
+seenPart img s = reader.seenPart hfs img s

@@ -2,7 +2,7 @@
 ghost use mathlib.Core.Path.{_≡_};
 ghost use lib.ListN.{length};
 ghost use Rattle.btree.specs.Numbers.{lookupReply};
-ghost use Rattle.formats.specs.Key.{asked};
+ghost use Rattle.extent_keys.specs.Key.{asked};
 ghost use Rattle.extents.specs.Reader.{checked, CheckSays, Leaves, lookedUp, foundPart, salvaged, seenPart};
 ghost use Rattle.extents.specs.Demands.{LookupSays, SalvageSays, PartOf};
 ghost use Rattle.extents.specs.Many.{manyAnswer, manyResults, ManySays};
@@ -38,7 +38,7 @@ pub fn lookup_part<'a>(
     start: u16,
     work: &mut [u8],
 ) -> &'a [u8]
-    ensures part { λ r. ⌜ PartOf (image .entry) r (foundPart (lookedUp (now (image .entry)) (asked file fork start) (length (now (work .entry))) .answer)) ⌝ }
+    ensures part { λ r. ⌜ PartOf (image .entry) r (foundPart (now (image .entry)) (lookedUp (now (image .entry)) (asked file fork start) (length (now (work .entry))) .answer)) ⌝ }
     ensures leaves { λ _. ⌜ Leaves (now (image .entry)) (lookupReply (lookedUp (now (image .entry)) (asked file fork start) (length (now (work .entry))) .answer) .number) (now (work .entry)) (now (work .exit)) ⌝ }
 {
     editions::lookup_part(0, 512, image, file, fork, start as u32, work)
@@ -72,7 +72,7 @@ pub fn salvage(image: &[u8], file: u32, fork: u8, start: u16) -> Salvage
 
 // The 12 data bytes of the record that `salvage` sees; else the empty part at the image's start.
 pub fn salvage_part<'a>(image: &'a [u8], file: u32, fork: u8, start: u16) -> &'a [u8]
-    ensures { λ r. ⌜ PartOf (image .entry) r (seenPart (salvaged (now (image .entry)) (asked file fork start))) ⌝ }
+    ensures { λ r. ⌜ PartOf (image .entry) r (seenPart (now (image .entry)) (salvaged (now (image .entry)) (asked file fork start))) ⌝ }
 {
     editions::salvage_part(0, 512, image, file, fork, start as u32)
 }

@@ -1,2 +1,2 @@
-pub mod Order
-pub mod Sizes
+pub mod Ranks
+pub mod Starts

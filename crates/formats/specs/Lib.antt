@@ -1,2 +1,2 @@
-pub mod Key
 pub mod Format
+pub mod Asked

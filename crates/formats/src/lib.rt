@@ -1,3 +1,3 @@
-// The key and the records of a node, as an extents overflow file has them: of HFS, or of HFS Plus. No other crate knows an edition's keys.
-pub mod key;
+// The keys and the records of a node, of either tree: here the trees part, and no crate above asks which one it reads.
+pub mod keys;
 pub mod records;

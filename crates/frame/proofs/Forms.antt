@@ -1,6 +1,6 @@
 -- The forms that are listed, and the sizes that follow from one.
 -- Assumes nothing.
-use mathlib.Core.Path.{_≡_, refl, ap}
+use mathlib.Core.Path.{_≡_, refl, ap, _∙_}
 use mathlib.Core.Logic.{_⊎_, inl, inr, ⊎-elim}
 use mathlib.Core.List.{List, [], _∷_, List·Memᴰ·head, List·Memᴰ·tail, List·Memᴰ·not-nil, List·Memᴰ·cases-cons}
 use Prim.Native.Nat.{ℕ, zero, suc, _+_, _-_, _*_, _/_, _≤_, _<_}
@@ -11,7 +11,7 @@ use Rattle.btree.specs.Lists.{_∈_}
 use Rattle.btree.specs.Decide.{ifZero}
 use Rattle.btree.specs.Layout.{Fits}
 use Rattle.frame.specs.declared.form.Form.{Form}
-use Rattle.frame.specs.Form.{hfs, plusSizes, Listed, nodeMapOf, layoutOf, Fair}
+use Rattle.frame.specs.Form.{hfs, plusSizes, Listed, keySize, nodeMapOf, layoutOf, Fair}
 
 -- the one proof that names the sizes of HFS
 pub hfs-layout : layoutOf hfs ≡ record { nodeSize = 512; headerMap = 256; nodeMap = 494; maxNodes = 65536; maxDepth = 8 }
@@ -67,6 +67,23 @@ module _ (form : Form) where
   pub node-map-plus : (form .edition ≡ 0 → ⊥) → nodeMapOf form ≡ form .size - 20
   unfolding nodeMapOf
   node-map-plus h = ap (λ (n : ℕ). form .size - n) (if-not (form .edition) 18 20 h)
+
+  -- a key of the extents overflow file has 8 or 12 bytes
+  pub key-size-hfs : form .tree ≡ 0 → form .edition ≡ 0 → keySize form ≡ 8
+  unfolding keySize
+  key-size-hfs t e = if-zero (form .tree) _ 38 t ∙ if-zero (form .edition) 8 12 e
+
+  pub key-size-plus : form .tree ≡ 0 → (form .edition ≡ 0 → ⊥) → keySize form ≡ 12
+  unfolding keySize
+  key-size-plus t h = if-zero (form .tree) _ 38 t ∙ if-not (form .edition) 8 12 h
+
+  pub key-size-catalog : (form .tree ≡ 0 → ⊥) → keySize form ≡ 38
+  unfolding keySize
+  key-size-catalog h = if-not (form .tree) _ 38 h
+
+  pub key-some : 8 ≤ keySize form
+  unfolding keySize
+  key-some = if-either (λ (n : ℕ). 8 ≤ n) (form .tree) _ 38 (if-either (λ (n : ℕ). 8 ≤ n) (form .edition) 8 12 (omega arith) (omega arith)) (omega arith)
 
   -- a node of so many lies in an image that has them all
   pub node-inside : (n total len : ℕ) → n < total → total * form .size ≤ len → n * form .size + form .size ≤ len

@@ -1,4 +1,4 @@
--- The form of a tree file: its edition and the size of its nodes; which there are, and the sizes that follow.
+-- The form of a tree file: its edition, which tree it is and the size of its nodes; which there are, and the sizes that follow.
 -- Assumes nothing.
 use mathlib.Core.Path.{_≡_}
 use mathlib.Core.Logic.{_⊎_, Dec·and}
@@ -14,13 +14,21 @@ use Rattle.frame.specs.declared.form.Form.{Form}
 abbrev pub byEdition : {A : Type 0} → Form → A → A → A
 byEdition form a b = ifZero (form .edition) a b
 
--- "The caller says which edition and node size are meant"
+-- W-204: "The caller says which is meant", the extents overflow file or the catalog: a for the first, else b
+abbrev pub byTree : {A : Type 0} → Form → A → A → A
+byTree form a b = ifZero (form .tree) a b
+
+-- W-211: "HFS Plus extents trees": "The caller says which edition and node size are meant"
 abbrev pub formOf : ℕ → ℕ → Form
-formOf edition size = record { edition = edition; size = size }
+formOf edition size = record { edition = edition; tree = 0; size = size }
 
 -- "Nodes are 512 bytes"
 abbrev pub hfs : Form
 hfs = formOf 0 512
+
+-- W-204: "the catalog file of the same book"
+abbrev pub catalog : Form
+catalog = record { edition = 0; tree = 1; size = 512 }
 
 -- W-211: "node sizes of 512 to 32,768 in powers of two"
 abbrev pub plusSizes : List ℕ
@@ -37,9 +45,13 @@ decListed form =
     (Dec·and (ℕ-discrete (form .edition) 1) (decMem (form .size) plusSizes))
 
 module _ (form : Form) where
-  -- "key length is 7"; W-211: "10 in the header too"
+  -- "key length is 7"; W-211: "10 in the header too"; W-204: "a catalog's header has key length 37"
   unfoldable pub keyLength : ℕ
-  keyLength = byEdition form 7 10
+  keyLength = byTree form (byEdition form 7 10) 37
+
+  -- a key has "Eight bytes"; W-211: "a 12-byte key"; W-204: "index keys stored at full length 37", after the length byte
+  unfoldable pub keySize : ℕ
+  keySize = byTree form (byEdition form 8 12) 38
 
   -- W-211: "Map records have the node size less 256 bytes in the header", 256 in HFS
   abbrev pub headerMapOf : ℕ

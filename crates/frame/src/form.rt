@@ -1,21 +1,34 @@
-// The form of a tree file: its edition and the size of its nodes, as the caller says them.
+// The form of a tree file: its edition, which tree it is and the size of its nodes, as the caller says them.
 ghost use mathlib.Core.Path.{_≡_};
 ghost use Prim.Native.Nat.{_≤_};
 ghost use Rattle.btree.specs.Decide.{says};
-ghost use Rattle.frame.specs.Form.{formOf, decListed, hfs, keyLength, headerMapOf, nodeMapOf, Fair};
+ghost use Rattle.frame.specs.Form.{formOf, decListed, hfs, catalog, keyLength, keySize, headerMapOf, nodeMapOf, Fair};
 
-// Edition 0 is HFS, 1 HFS Plus; the size is in bytes.
+// Edition 0 is HFS, 1 HFS Plus; tree 0 is the extents overflow file, 1 the catalog; the size is in bytes.
 pub struct Form {
     pub edition: u32,
+    pub tree: u32,
     pub size: u32,
 }
 
-// The form of every tree file of an HFS volume.
+// The form of the extents overflow file of an HFS volume.
 pub fn of_hfs() -> Form
     ensures { λ r. ⌜ r ≡ hfs ⌝ }
 {
     Form {
         edition: 0,
+        tree: 0,
+        size: 512,
+    }
+}
+
+// The form of its catalog.
+pub fn of_catalog() -> Form
+    ensures { λ r. ⌜ r ≡ catalog ⌝ }
+{
+    Form {
+        edition: 0,
+        tree: 1,
         size: 512,
     }
 }
@@ -38,7 +51,20 @@ pub fn is_listed(edition: u32, size: u32) -> bool
 pub fn key_length(form: Form) -> u32
     ensures { λ r. ⌜ r ≡ keyLength form ⌝ }
 {
+    if form.tree != 0 {
+        return 37;
+    }
     if form.edition == 0 { 7 } else { 10 }
+}
+
+// Bytes of a key in an index record.
+pub fn key_size(form: Form) -> u32
+    ensures { λ r. ⌜ (r ≡ keySize form) × (r ≤ 38) ⌝ }
+{
+    if form.tree != 0 {
+        return 38;
+    }
+    if form.edition == 0 { 8 } else { 12 }
 }
 
 // Bytes of the map record in the header.

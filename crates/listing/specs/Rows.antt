@@ -8,8 +8,8 @@ use Prim.Native.Nat.{ℕ, zero, suc, _+_, _≤_}
 use Rattle.image.specs.Bytes.{be16At}
 use Rattle.btree.specs.Tree.{Rec}
 use Rattle.frame.specs.Form.{hfs}
-use Rattle.formats.specs.declared.key.Key.{Key}
-use Rattle.formats.specs.Key.{keyAt}
+use Rattle.extent_keys.specs.declared.key.Key.{Key}
+use Rattle.extent_keys.specs.Key.{keyAt}
 use Rattle.formats.specs.Format.{recordAt, dataAt}
 use Rattle.extents.specs.Reader.{leafList}
 use Rattle.listing.specs.declared.Row.{Row}
@@ -45,4 +45,4 @@ pairsAt img at =
 
 -- the nine numbers of a line, of record i of the node n
 unfoldable pub fieldsOf : List ℕ → ℕ → ℕ → List ℕ
-fieldsOf img n i = keyFields (keyAt hfs img (recordAt hfs img n i)) (pairsAt img (dataAt hfs (recordAt hfs img n i)))
+fieldsOf img n i = keyFields (keyAt hfs img (recordAt hfs img n i)) (pairsAt img (dataAt hfs img (recordAt hfs img n i)))

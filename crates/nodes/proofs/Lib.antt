@@ -1,3 +1,1 @@
-pub mod Telling
-pub mod Lawfully
 pub mod Within

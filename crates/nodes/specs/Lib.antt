@@ -1,3 +1,1 @@
-pub mod Tells
 pub mod Inside
-pub mod Lawfully

@@ -2,11 +2,11 @@
 -- Assumes nothing.
 use mathlib.Core.Option.{Option, none, some}
 use mathlib.Core.List.{List}
-use Prim.Native.Nat.{ℕ}
+use Prim.Native.Nat.{ℕ, _-_}
 use Rattle.btree.specs.Decide.{ifZero}
 use Rattle.frame.specs.declared.form.Form.{Form}
-use Rattle.formats.specs.Key.{keyAt, rank}
+use Rattle.formats.specs.Format.{rankAt}
 
--- the key that stands at a byte of the image; none for 0, where no key stands
+-- the key that stands at the byte before this one of the image, and none for 0
 unfoldable pub bound : Form → List ℕ → ℕ → Option ℕ
-bound form img at = ifZero at none (some (rank (keyAt form img at)))
+bound form img after = ifZero after none (some (rankAt form img (after - 1)))

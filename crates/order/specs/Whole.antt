@@ -10,7 +10,8 @@ use Rattle.btree.specs.Decide.{map-dec, decImp, decAll}
 use Rattle.btree.specs.Tree.{View}
 use Rattle.btree.specs.Walk.{Under}
 use Rattle.frame.specs.declared.form.Form.{Form}
-use Rattle.formats.specs.Format.{leafKind, Records, decRecords, view}
+use Rattle.frame.specs.Kinds.{leafKind}
+use Rattle.formats.specs.Format.{Records, decRecords, view}
 
 -- a node's "keys strictly ascend"
 abbrev pub Ascends : View → ℕ → Type 0

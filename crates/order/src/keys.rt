@@ -3,27 +3,24 @@ ghost use mathlib.Core.Path.{_≡_};
 ghost use mathlib.Core.Bool.{true};
 ghost use Prim.Native.Nat.{pred, _<_};
 ghost use Rattle.btree.specs.Hits.{hitOf};
+ghost use Rattle.btree.specs.Tells.{Tells};
 ghost use Rattle.btree.specs.Walk.{Under, wrongKey};
 ghost use Rattle.btree.specs.Keys.{firstFall, FirstMeets};
 ghost use Rattle.frame.specs.Form.{Fair};
 ghost use Rattle.formats.specs.Format.{view};
-ghost use Rattle.nodes.specs.Tells.{Tells};
-ghost use Rattle.order.specs.Bound.{bound};
 ghost use Rattle.nodes.specs.Inside.{RecordsIn};
+ghost use Rattle.order.specs.Bound.{bound};
 ghost use Rattle.order.specs.Whole.{Ascends, Rising};
+use super::ascent::catalog_ascends;
+use super::ascent::extents_ascend;
 use btree::Hit;
-use formats::key::is_below;
-use formats::key::is_same;
-use formats::key::key_at;
-use formats::key::key_in;
-use formats::records::key_of;
+use formats::keys::is_below;
+use formats::keys::is_same;
 use formats::records::record_at;
-use formats::records::record_step;
 use frame::form::Form;
 use frame::node::count_of;
-use frame::node::start_of;
 
-// The first key is the one that points at the node, which stands at `low`; 0 is the root's, which no key points at.
+// The first key is the one that points at the node, which stands before `low`; 0 is the root's, which no key points at.
 fn first_meets(form: Form, image: &[u8], node: u32, low: usize) -> bool
     requires { ⌜ RecordsIn form (now image) node × (low < 1000000000000000) ⌝ }
     ensures { λ r. ⌜ Tells r (FirstMeets (view form (now (image .entry))) (bound form (now (image .entry)) low) node) ⌝ }
@@ -34,8 +31,7 @@ fn first_meets(form: Form, image: &[u8], node: u32, low: usize) -> bool
     if count_of(form, image, node) == 0 {
         return true;
     }
-    let first = start_of(form, node) + 14;
-    is_same(key_in(form, image, first), key_at(form, image, low))
+    is_same(form, image, record_at(form, image, node, 0), low - 1)
 }
 
 // Each key is above the one before.
@@ -43,21 +39,10 @@ pub fn keys_ascend(form: Form, image: &[u8], node: u32) -> bool
     requires { ⌜ RecordsIn form (now image) node ⌝ }
     ensures { λ r. ⌜ Tells r (Ascends (view form (now (image .entry))) node) ⌝ }
 {
-    let c = count_of(form, image, node);
-    let step = record_step(form, image, node);
-    let mut at = record_at(form, image, node, 0);
-    let mut key = key_in(form, image, at);
-    let mut i: u32 = 0;
-    while i + 1 < c {
-        at += step;
-        let next = key_in(form, image, at);
-        if !is_below(key, next) {
-            return false;
-        }
-        key = next;
-        i += 1;
+    if form.tree == 0 {
+        return extents_ascend(form, image, node);
     }
-    true
+    catalog_ascends(form, image, node)
 }
 
 // The key of record i is above the one before.
@@ -69,12 +54,14 @@ fn over_before(form: Form, image: &[u8], node: u32, i: u32) -> bool
         return true;
     }
     is_below(
-        key_of(form, image, node, i - 1),
-        key_of(form, image, node, i),
+        form,
+        image,
+        record_at(form, image, node, i - 1),
+        record_at(form, image, node, i),
     )
 }
 
-// The key of record i is below the one that stands at `high`, where one does.
+// The key of record i is below the one that stands before `high`, where one does.
 fn is_under(form: Form, image: &[u8], node: u32, i: u32, high: usize) -> bool
     requires { ⌜ Fair form × (high < 1000000000000000) ⌝ }
     ensures { λ r. ⌜ Tells r (Under (view form (now (image .entry)) .key node i) (bound form (now (image .entry)) high)) ⌝ }
@@ -82,7 +69,7 @@ fn is_under(form: Form, image: &[u8], node: u32, i: u32, high: usize) -> bool
     if high == 0 {
         return true;
     }
-    is_below(key_of(form, image, node, i), key_at(form, image, high))
+    is_below(form, image, record_at(form, image, node, i), high - 1)
 }
 
 // The first record of which one of these fails.
@@ -104,7 +91,7 @@ fn first_fall(form: Form, image: &[u8], node: u32, high: usize) -> Hit
     Hit::Nowhere
 }
 
-// The keys of a node ascend, to one below the key that stands at `high`, where one does.
+// The keys of a node ascend, to one below the key that stands before `high`, where one does.
 fn keys_rise(form: Form, image: &[u8], node: u32, high: usize) -> bool
     requires { ⌜ RecordsIn form (now image) node × (high < 1000000000000000) ⌝ }
     ensures { λ r. ⌜ (r ≡ true → Rising (view form (now (image .entry))) (bound form (now (image .entry)) high) node) ⌝ }
@@ -120,7 +107,7 @@ fn keys_rise(form: Form, image: &[u8], node: u32, high: usize) -> bool
         return true;
     }
     let last = record_at(form, image, node, c - 1);
-    is_below(key_in(form, image, last), key_at(form, image, high))
+    is_below(form, image, last, high - 1)
 }
 
 // Test 6: the first record whose key is not right. Keys that ascend from the one that points at the node are not below it, and are below what the last is

@@ -1,7 +1,7 @@
 // Whether a node is a leaf that is whole by itself.
 ghost use mathlib.Core.Path.{_≡_};
 ghost use Rattle.btree.specs.Decide.{says};
-ghost use Rattle.nodes.specs.Inside.{NodeIn};
+ghost use Rattle.frame.specs.Inside.{NodeIn};
 ghost use Rattle.order.specs.Whole.{decWholeLeaf};
 use super::keys::keys_ascend;
 use frame::form::Form;

@@ -3,7 +3,7 @@
 use mathlib.Core.List.{List, [], _∷_, _++_}
 use Prim.Native.Nat.{ℕ}
 use lib.ListN.{replicate, set}
-use Rattle.formats.specs.Key.{asked}
+use Rattle.extent_keys.specs.Key.{asked}
 use Rattle.vectors.specs.Bench.{Case, of}
 use Rattle.vectors.specs.Bench.Asks.{check, look, sees}
 use Rattle.vectors.specs.Build.{put, keyBytes, mapNode, linkedHeader, E1, E2, L1, twoLeaves, twoLeavesUnder}

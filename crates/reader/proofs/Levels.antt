@@ -12,7 +12,8 @@ use Rattle.btree.specs.Tree.{OnLevel, LaidOut}
 use Rattle.btree.proofs.Decisions.{cond-yes, cond-no}
 use Rattle.btree.proofs.Levels.{Falls, falls-iff}
 use Rattle.frame.specs.declared.form.Form.{Form}
-use Rattle.formats.specs.Format.{leafKind, indexKind, kindOn, kindOf, levelOf, Records, view}
+use Rattle.frame.specs.Kinds.{leafKind, indexKind, kindOn, kindOf, levelOf}
+use Rattle.formats.specs.Format.{Records, view}
 
 pub record Levels (form : Form) (img : List ℕ) : Type 0 where
   -- "the root's level is the depth, each child's is one less than its parent's"

@@ -12,9 +12,10 @@ use Rattle.btree.proofs.MapBits.{node-inside}
 use Rattle.frame.specs.declared.form.Form.{Form}
 use Rattle.frame.specs.Form.{layoutOf, Fair}
 use Rattle.frame.proofs.Forms.{fits}
-use Rattle.formats.specs.Format.{leafKind, dataSize, recordAt, dataAt, Records, view}
+use Rattle.frame.specs.Kinds.{leafKind}
+use Rattle.formats.specs.Format.{recordAt, dataAt, dataSizeAt, Records, view}
 use Rattle.reader.specs.Reader.{Sound}
-use Rattle.formats.proofs.Sizes.{record-inside}
+use Rattle.formats.proofs.Starts.{record-inside}
 use Rattle.reader.proofs.Levels.{levels-iff}
 
 -- a leaf is on the lowest level
@@ -36,7 +37,7 @@ module _ (form : Form) (fair : Fair form) (img : List ℕ) (s : Sound form img) 
       let v = levels-iff form img .0 (s .nodes) in
       (rw (v .leaves h n o .1 (omega arith)) at (v .records h n o), s .tree .inRange h n o)
 
-  pub leaf-inside : (n i : ℕ) → n ∈ leavesAt (view form img) (view form img .depth) → i < countOf (layoutOf form) img n → dataAt form (recordAt form img n i) + dataSize form ≤ length img
+  pub leaf-inside : (n i : ℕ) → n ∈ leavesAt (view form img) (view form img .depth) → i < countOf (layoutOf form) img n → dataAt form img (recordAt form img n i) + dataSizeAt form img (recordAt form img n i) ≤ length img
   leaf-inside n i m u =
       let (r, l) = leaf-records n m in
       record-inside form img n i r (node-inside (layoutOf form) (fits form fair) img (s .lengths) (s .header .totalNodes) n l) u

@@ -12,13 +12,12 @@ use Rattle.btree.specs.Search.{Floor, AtPathEnd}
 use Rattle.btree.proofs.Leaves.{on-child}
 use Rattle.btree.proofs.Floor as floor
 use Rattle.frame.specs.declared.form.Form.{Form}
-use Rattle.formats.specs.declared.key.Key.{Key}
-use Rattle.formats.specs.Key.{rank}
 use Rattle.formats.specs.Format.{view}
+use Rattle.reader.specs.Query.{Query}
 use Rattle.reader.specs.Reader.{Sound, leafList, searchPath}
 
 module _ (form : Form) (img : List ℕ) (s : Sound form img) where
-  -- "a leaf holds 1 to 22 and an index node 1 to 35"
+  -- every node of the tree has a record
   node-filled : (d n : ℕ) → OnLevel (view form img) d n → 0 < view form img .count n
   unfolding viewOf
   node-filled d n o = s .nodes d n o .records .some
@@ -27,12 +26,12 @@ module _ (form : Form) (img : List ℕ) (s : Sound form img) where
   pub pointer-first : (d n i : ℕ) → OnLevel (view form img) d n → suc d < view form img .depth → i < view form img .count n → view form img .key n i ≡ view form img .key (view form img .child n i) 0
   pointer-first d n i o l u = s .tree .pointerKeys d n i o u l (node-filled (suc d) (view form img .child n i) (on-child (view form img) d n i o u l))
 
-  module _ (k : Key) where
-    -- of all leaf records the one with the highest key not above k is the one with the highest key not above k in the leaf where the search path of k ends
-    pub floor-iff : (x : Rec) → Floor (view form img) (rank k) x ↔ AtPathEnd (view form img) (rank k) x
-    floor-iff = floor.floor-iff (view form img) (s .tree) (rank k) node-filled (s .totals)
+  module _ (q : Query) where
+    -- of all leaf records the one with the highest key not above the asked one is the one with the highest such key in the leaf where its search path ends
+    pub floor-iff : (x : Rec) → Floor (view form img) (q .rank) x ↔ AtPathEnd (view form img) (q .rank) x
+    floor-iff = floor.floor-iff (view form img) (s .tree) (q .rank) node-filled (s .totals)
 
-    -- and the path is cut short only where every leaf record's key is above k
-    pub cut-short : length (searchPath form img k) < depthOf img → (x : Rec) → x ∈ leafList form img → rank k < x .key
+    -- and the path is cut short only where every leaf record's key is above it
+    pub cut-short : length (searchPath form img q) < depthOf img → (x : Rec) → x ∈ leafList form img → q .rank < x .key
     unfolding viewOf
-    cut-short = floor.cut-short (view form img) (s .tree) (rank k) node-filled (s .totals)
+    cut-short = floor.cut-short (view form img) (s .tree) (q .rank) node-filled (s .totals)

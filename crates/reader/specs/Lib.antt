@@ -1,3 +1,4 @@
+pub mod Query
 pub mod Reader
 pub mod Salvage
 pub mod Demands

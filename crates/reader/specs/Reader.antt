@@ -1,5 +1,6 @@
 -- What is said of an image of a form: whether it is sound, the first fault, its leaf records, what a lookup and what salvage answer.
 -- Assumes nothing.
+use mathlib.Core.Bool.{Bool}
 use mathlib.Core.List.{List}
 use Prim.Native.Nat.{ℕ, _-_, _*_, _/_}
 use native.Mathlib.Decide.{decLe}
@@ -13,6 +14,7 @@ use Rattle.btree.specs.declared.Salvage.{Salvage}
 use Rattle.btree.specs.declared.Salvage.the-variants.{Seen, NotSeen, Refused}
 use Rattle.btree.specs.Places.{imageStart, imageOffset}
 use Rattle.btree.specs.Decide.{cond}
+use Rattle.btree.specs.Tells.{pick}
 use Rattle.btree.specs.Tree.{Rec}
 use Rattle.btree.specs.Search as search
 use Rattle.btree.specs.Image as image
@@ -20,10 +22,9 @@ use Rattle.btree.specs.Tests as tests
 use Rattle.btree.specs.Work as work
 use Rattle.frame.specs.declared.form.Form.{Form}
 use Rattle.frame.specs.Form.{layoutOf}
-use Rattle.formats.specs.declared.key.Key.{Key}
-use Rattle.formats.specs.Key.{decLawful, rank}
-use Rattle.formats.specs.Format.{dataSize, dataAt, formatOf, view}
+use Rattle.formats.specs.Format.{dataAt, dataSizeAt, formatOf, view}
 use Rattle.scan.specs.Seen.{seenFrom}
+use Rattle.reader.specs.Query.{Query}
 
 -- a part of the image: where it starts and how many bytes it has
 pub record Part : Type 0 where
@@ -63,37 +64,47 @@ module _ (form : Form) where
   abbrev pub leafList : List ℕ → List Rec
   leafList img = search.leafList (view form img)
 
-  abbrev pub searchPath : List ℕ → Key → List ℕ
-  searchPath img k = search.pathOf (view form img) (rank k)
+  abbrev pub searchPath : List ℕ → Query → List ℕ
+  searchPath img q = search.pathOf (view form img) (q .rank)
 
   -- W-202: "how many keys it compared so, in all"
-  abbrev pub keysCompared : List ℕ → Key → ℕ
-  keysCompared img k = search.comparedOf (view form img) (rank k)
+  abbrev pub keysCompared : List ℕ → Query → ℕ
+  keysCompared img q = search.comparedOf (view form img) (q .rank)
 
-  abbrev pub lookedUp : List ℕ → Key → ℕ → Lookup
-  lookedUp img k lent = search.lookupOf (view form img) (checked img lent) (decLawful (k .fork)) (rank k)
+  abbrev pub lookedUp : List ℕ → Query → ℕ → Lookup
+  lookedUp img q lent = search.lookupOf (view form img) (checked img lent) (q .decLawful) (q .rank)
+
+  -- the same as the code is asked: whether the key may be asked for, and its number
+  abbrev pub lookedUpBy : List ℕ → Bool → ℕ → ℕ → Lookup
+  lookedUpBy img lawful rank lent = pick lawful (search.afterCheck (view form img) rank (checked img lent)) (search.refused 11 imageStart)
 
   -- the data of the leaf record that starts at a place
-  abbrev pub dataPart : Place → Part
-  dataPart p = record { at = dataAt form (imageOffset (layoutOf form) p); size = dataSize form }
+  abbrev pub dataPart : List ℕ → Place → Part
+  dataPart img p = record { at = dataAt form img (imageOffset (layoutOf form) p); size = dataSizeAt form img (imageOffset (layoutOf form) p) }
 
   -- "Found hands back the 12 data bytes as a part of the image; every other answer hands back the empty part at its start."; W-211: "The part found is 12
-  -- bytes in HFS and 64 in HFS Plus."
-  abbrev pub foundPart : Answer → Part
-  foundPart (answer.Found p) = dataPart p
-  foundPart (answer.Absent n) = emptyPart
-  foundPart (answer.Refused number place) = emptyPart
+  -- bytes in HFS and 64 in HFS Plus."; W-204: "The part is the record's whole data, 70, 102 or 46 bytes."
+  abbrev pub foundPart : List ℕ → Answer → Part
+  foundPart img (answer.Found p) = dataPart img p
+  foundPart img (answer.Absent n) = emptyPart
+  foundPart img (answer.Refused number place) = emptyPart
 
   -- "Salvage tests 11, then length: more than 3,072,000 bytes is 1; any other length is taken, and a broken last node is ignored. From node 1 up";
   -- W-211: "The limit is 65,536 times the node size in bytes, for salvage too."
-  unfoldable pub salvaged : List ℕ → Key → Salvage
-  salvaged img k =
-      cond (decLawful (k .fork))
-      (cond (decLe (length img) (65536 * form .size)) (seenFrom form img (rank k) 1 (length img / form .size - 1)) (Refused 1 imageStart))
+  unfoldable pub salvaged : List ℕ → Query → Salvage
+  salvaged img q =
+      cond (q .decLawful)
+      (cond (decLe (length img) (65536 * form .size)) (seenFrom form img (q .rank) 1 (length img / form .size - 1)) (Refused 1 imageStart))
+      (Refused 11 imageStart)
+
+  abbrev pub salvagedBy : List ℕ → Bool → ℕ → Salvage
+  salvagedBy img lawful rank =
+      pick lawful
+      (cond (decLe (length img) (65536 * form .size)) (seenFrom form img rank 1 (length img / form .size - 1)) (Refused 1 imageStart))
       (Refused 11 imageStart)
 
   -- "The first match is seen, data as a part of the image."
-  abbrev pub seenPart : Salvage → Part
-  seenPart (Seen p) = dataPart p
-  seenPart NotSeen = emptyPart
-  seenPart (Refused number place) = emptyPart
+  abbrev pub seenPart : List ℕ → Salvage → Part
+  seenPart img (Seen p) = dataPart img p
+  seenPart img NotSeen = emptyPart
+  seenPart img (Refused number place) = emptyPart

@@ -1,13 +1,12 @@
-// The reader of an extents overflow file of any form. Any bytes are an image, and nobody has to have checked it first.
+// The reader of a tree file of any form. Any bytes are an image, and nobody has to have checked it first.
 ghost use mathlib.Core.Path.{_≡_};
 ghost use lib.ListN.{length};
 ghost use Rattle.btree.specs.Numbers.{lookupReply};
 ghost use Rattle.btree.specs.Search.{refused};
 ghost use Rattle.frame.specs.Form.{Fair};
-ghost use Rattle.formats.specs.Key.{asked};
-ghost use Rattle.reader.specs.Reader.{Leaves, lookedUp, foundPart, salvaged, seenPart};
-ghost use Rattle.reader.specs.Demands.{LookupSays, PartOf};
-ghost use Rattle.reader.specs.Salvage.{SalvageSays};
+ghost use Rattle.formats.specs.Asked.{askedRank};
+ghost use Rattle.reader.specs.Reader.{Leaves, lookedUpBy, foundPart, salvagedBy, seenPart};
+ghost use Rattle.reader.specs.Demands.{PartOf};
 use btree::Answer;
 use btree::Lookup;
 use btree::Path;
@@ -16,8 +15,7 @@ use btree::Salvage;
 use btree::Verdict;
 use btree::at_node;
 use checks::check;
-use formats::key::is_lawful;
-use formats::key::sort_key;
+use extent_keys::key::SortKey;
 use formats::records::data_of;
 use frame::form::Form;
 use image::part::no_part;
@@ -41,37 +39,43 @@ pub fn refusal(t: Verdict) -> Lookup
     }
 }
 
-// What stands under a key: first the fork byte is judged, then the whole image, and only then the tree is searched.
-pub fn lookup(form: Form, image: &[u8], file: u32, fork: u8, start: u32, work: &mut [u8]) -> Lookup
+// What stands under a key: first it is judged whether the key may be asked for, then the whole image, and only then the tree is searched.
+pub fn lookup(
+    form: Form,
+    image: &[u8],
+    lawful: bool,
+    key: SortKey,
+    name: &[u8],
+    work: &mut [u8],
+) -> Lookup
     requires { ⌜ Fair form ⌝ }
-    ensures equal { λ r. ⌜ r ≡ lookedUp form (now (image .entry)) (asked file fork start) (length (now (work .entry))) ⌝ }
-    ensures says { λ r. ⌜ LookupSays form (now (image .entry)) (asked file fork start) (length (now (work .entry))) r ⌝ }
+    ensures equal { λ r. ⌜ r ≡ lookedUpBy form (now (image .entry)) lawful (askedRank form key (now (name .entry))) (length (now (work .entry))) ⌝ }
     ensures leaves { λ r. ⌜ Leaves form (now (image .entry)) (lookupReply (r .answer) .number) (now (work .entry)) (now (work .exit)) ⌝ }
 {
-    if !is_lawful(fork as u32) {
+    if !lawful {
         return refusal(at_node(11, 0));
     }
     let t = check(form, image, work);
     if t.number != 0 {
         return refusal(t);
     }
-    descend(form, image, sort_key(file, fork, start))
+    descend(form, image, key, name)
 }
 
 // The data bytes of the record that a lookup finds, or else the empty part at the image's start.
 pub fn lookup_part<'a>(
     form: Form,
     image: &'a [u8],
-    file: u32,
-    fork: u8,
-    start: u32,
+    lawful: bool,
+    key: SortKey,
+    name: &[u8],
     work: &mut [u8],
 ) -> &'a [u8]
     requires { ⌜ Fair form ⌝ }
-    ensures part { λ r. ⌜ PartOf (image .entry) r (foundPart form (lookedUp form (now (image .entry)) (asked file fork start) (length (now (work .entry))) .answer)) ⌝ }
-    ensures leaves { λ _. ⌜ Leaves form (now (image .entry)) (lookupReply (lookedUp form (now (image .entry)) (asked file fork start) (length (now (work .entry))) .answer) .number) (now (work .entry)) (now (work .exit)) ⌝ }
+    ensures part { λ r. ⌜ PartOf (image .entry) r (foundPart form (now (image .entry)) (lookedUpBy form (now (image .entry)) lawful (askedRank form key (now (name .entry))) (length (now (work .entry))) .answer)) ⌝ }
+    ensures leaves { λ _. ⌜ Leaves form (now (image .entry)) (lookupReply (lookedUpBy form (now (image .entry)) lawful (askedRank form key (now (name .entry))) (length (now (work .entry))) .answer) .number) (now (work .entry)) (now (work .exit)) ⌝ }
 {
-    let found = lookup(form, image, file, fork, start, work);
+    let found = lookup(form, image, lawful, key, name, work);
     let answer = found.answer;
     match answer {
         Answer::Found(place) => data_of(form, image, place),
@@ -81,26 +85,31 @@ pub fn lookup_part<'a>(
 }
 
 // The first record with the key in any whole leaf from node 1 up, in the tree or not. Seen proves nothing: a freed node may hold an old record.
-pub fn salvage(form: Form, image: &[u8], file: u32, fork: u8, start: u32) -> Salvage
+pub fn salvage(form: Form, image: &[u8], lawful: bool, key: SortKey, name: &[u8]) -> Salvage
     requires { ⌜ Fair form ⌝ }
-    ensures equal { λ r. ⌜ r ≡ salvaged form (now (image .entry)) (asked file fork start) ⌝ }
-    ensures says { λ r. ⌜ SalvageSays form (now (image .entry)) (asked file fork start) r ⌝ }
+    ensures { λ r. ⌜ r ≡ salvagedBy form (now (image .entry)) lawful (askedRank form key (now (name .entry))) ⌝ }
 {
-    if !is_lawful(fork as u32) {
+    if !lawful {
         return Salvage::Refused(11, Place { node: 0, offset: 0 });
     }
     if image.len() > 65_536 * (form.size as usize) {
         return Salvage::Refused(1, Place { node: 0, offset: 0 });
     }
-    first_seen(form, image, sort_key(file, fork, start))
+    first_seen(form, image, key, name)
 }
 
 // The data bytes of the record that `salvage` sees; else the empty part at the image's start.
-pub fn salvage_part<'a>(form: Form, image: &'a [u8], file: u32, fork: u8, start: u32) -> &'a [u8]
+pub fn salvage_part<'a>(
+    form: Form,
+    image: &'a [u8],
+    lawful: bool,
+    key: SortKey,
+    name: &[u8],
+) -> &'a [u8]
     requires { ⌜ Fair form ⌝ }
-    ensures { λ r. ⌜ PartOf (image .entry) r (seenPart form (salvaged form (now (image .entry)) (asked file fork start))) ⌝ }
+    ensures { λ r. ⌜ PartOf (image .entry) r (seenPart form (now (image .entry)) (salvagedBy form (now (image .entry)) lawful (askedRank form key (now (name .entry))))) ⌝ }
 {
-    match salvage(form, image, file, fork, start) {
+    match salvage(form, image, lawful, key, name) {
         Salvage::Seen(place) => data_of(form, image, place),
         Salvage::NotSeen => no_part(image),
         Salvage::Refused(_, _) => no_part(image),

@@ -1,7 +1,7 @@
 -- Lists of a known length: eight nodes of a path, bytes of data.
 -- Assumes nothing.
 use mathlib.Core.Path.{_≡_, refl, sym, ap, _∙_}
-use mathlib.Core.List.{List, [], _∷_}
+use mathlib.Core.List.{List, [], _∷_, _++_}
 use Prim.Native.Nat.{ℕ, zero, suc, _+_, _-_, _≤_, _<_}
 use native.Mathlib.Omega.{arith}
 use native.Mathlib.Decide.{decLt}
@@ -11,7 +11,7 @@ use lib.Seq.{ext-getD, getD-take, getD-drop, getD-set-same, getD-set-other}
 use borrow.Author.Count.{below-more}
 use Rattle.btree.specs.Lists.{padded}
 use Rattle.reader.specs.Reader.{Part}
-use Rattle.replies.specs.Written.{dataBytes, wideBytes}
+use Rattle.replies.specs.Written.{allBytes, partBytes}
 
 padded-length : (n : ℕ) (xs : List ℕ) → length (padded n xs) ≡ n
 padded-length zero xs = refl
@@ -68,6 +68,11 @@ firsts-all (suc n) (x ∷ xs) e = ap (λ (l : List ℕ). x ∷ l) (firsts-all n 
 pub eight-nodes : (xs : List ℕ) → length xs ≡ 8 → getD xs 0 0 ∷ getD xs 1 0 ∷ getD xs 2 0 ∷ getD xs 3 0 ∷ getD xs 4 0 ∷ getD xs 5 0 ∷ getD xs 6 0 ∷ getD xs 7 0 ∷ [] ≡ xs
 eight-nodes xs e = firsts-all 8 xs e
 
+-- and with more behind them
+pub eight-then : (xs rest : List ℕ) → length xs ≡ 8
+    → getD xs 0 0 ∷ getD xs 1 0 ∷ getD xs 2 0 ∷ getD xs 3 0 ∷ getD xs 4 0 ∷ getD xs 5 0 ∷ getD xs 6 0 ∷ getD xs 7 0 ∷ rest ≡ xs ++ rest
+eight-then xs rest e = ap (λ (l : List ℕ). l ++ rest) (eight-nodes xs e)
+
 pub firsts-padded : (n : ℕ) (xs : List ℕ) → firsts (λ i. getD xs i 0) n ≡ padded n xs
 firsts-padded zero xs = refl
 firsts-padded (suc n) [] = ap (λ (l : List ℕ). 0 ∷ l) (firsts-padded n [])
@@ -83,6 +88,10 @@ padded-twice n m xs l = ext-getD 0 (padded n (padded m xs)) (padded n xs) (e ∙
     same : (j : ℕ) → j < length (padded n (padded m xs)) → getD (padded n (padded m xs)) j 0 ≡ getD (padded n xs) j 0
     same j u = let q = e in let h : j < n = omega arith in padded-at n (padded m xs) j h ∙ padded-at m xs j (omega arith) ∙ sym (padded-at n xs j h)
 
--- the first twelve bytes of a part are what is written of it in HFS
-pub narrowed : (img : List ℕ) (p : Part) → padded 12 (wideBytes img p) ≡ dataBytes img p
-narrowed img p = padded-twice 12 64 (take (p .size) (drop (p .at) img)) (omega arith)
+-- the first bytes of all that are written of a part are fewer of them
+pub fewer : (n : ℕ) → n ≤ 102 → (img : List ℕ) (p : Part) → padded n (allBytes img p) ≡ partBytes n img p
+fewer n l img p = padded-twice n 102 (take (p .size) (drop (p .at) img)) l
+
+-- what agrees with a longer list byte by byte is its beginning
+pub beginning : (n : ℕ) (xs bytes : List ℕ) → length bytes ≡ n → ((j : ℕ) → j < n → getD bytes j 0 ≡ getD xs j 0) → bytes ≡ padded n xs
+beginning n xs bytes e h = ext-getD 0 bytes (padded n xs) (e ∙ sym (padded-length n xs)) (λ j u. let l : j < n = omega arith in h j l ∙ sym (padded-at n xs j l))

@@ -26,6 +26,10 @@ dataBytes img p = partBytes 12 img p
 abbrev pub wideBytes : List ℕ → Part → List ℕ
 wideBytes img p = partBytes 64 img p
 
+-- for a catalog 102
+abbrev pub allBytes : List ℕ → Part → List ℕ
+allBytes img p = partBytes 102 img p
+
 -- nothing is found or seen but in an image whose form is fair
 abbrev pub FoundFair : Form → Answer → Type 0
 FoundFair form answer = (p : Place) → answer ≡ Found p → Fair form

@@ -6,7 +6,7 @@ ghost use Rattle.btree.specs.Numbers.{lookupReply, salvageReply, replyNumbers, 
 ghost use Rattle.frame.specs.Form.{Fair};
 ghost use Rattle.reader.specs.Reader as reader;
 ghost use Rattle.extents.specs.Reader.{foundPart, seenPart};
-ghost use Rattle.replies.specs.Written.{dataBytes, wideBytes, FoundFair, SeenFair};
+ghost use Rattle.replies.specs.Written.{dataBytes, wideBytes, allBytes, FoundFair, SeenFair};
 use btree::Answer;
 use btree::Lookup;
 use btree::Place;
@@ -75,14 +75,14 @@ pub fn salvage_reply(seen: Salvage) -> [u32; 3]
     }
 }
 
-// The data bytes of the record that starts at a place, 12 in HFS and 64 in HFS Plus; the others are 0.
-fn record_wide(form: Form, image: &[u8], place: Place) -> [u8; 64]
+// The data bytes of the record that starts at a place, 12 in HFS, 64 in HFS Plus and up to 102 in a catalog; the others are 0.
+fn record_bytes(form: Form, image: &[u8], place: Place) -> [u8; 102]
     requires { ⌜ Fair form ⌝ }
-    ensures { λ r. ⌜ r ≡ wideBytes (now (image .entry)) (reader.dataPart form place) ⌝ }
+    ensures { λ r. ⌜ r ≡ allBytes (now (image .entry)) (reader.dataPart form (now (image .entry)) place) ⌝ }
 {
-    let at = data_at(form, place);
-    let size = data_size(form) as usize;
-    let mut data = [0; 64];
+    let at = data_at(form, image, place);
+    let size = data_size(form, image, place);
+    let mut data = [0; 102];
     let mut k = 0;
     while k < size {
         data[k] = byte_at(image, at + k) as u8;
@@ -91,57 +91,84 @@ fn record_wide(form: Form, image: &[u8], place: Place) -> [u8; 64]
     data
 }
 
-pub fn found_wide(form: Form, image: &[u8], answer: Answer) -> [u8; 64]
+pub fn found_bytes(form: Form, image: &[u8], answer: Answer) -> [u8; 102]
     requires { ⌜ FoundFair form answer ⌝ }
-    ensures { λ r. ⌜ r ≡ wideBytes (now (image .entry)) (reader.foundPart form answer) ⌝ }
+    ensures { λ r. ⌜ r ≡ allBytes (now (image .entry)) (reader.foundPart form (now (image .entry)) answer) ⌝ }
 {
     match answer {
-        Answer::Found(place) => record_wide(form, image, place),
-        Answer::Absent(_) => [0; 64],
-        Answer::Refused(_, _) => [0; 64],
+        Answer::Found(place) => record_bytes(form, image, place),
+        Answer::Absent(_) => [0; 102],
+        Answer::Refused(_, _) => [0; 102],
     }
+}
+
+pub fn seen_bytes(form: Form, image: &[u8], seen: Salvage) -> [u8; 102]
+    requires { ⌜ SeenFair form seen ⌝ }
+    ensures { λ r. ⌜ r ≡ allBytes (now (image .entry)) (reader.seenPart form (now (image .entry)) seen) ⌝ }
+{
+    match seen {
+        Salvage::Seen(place) => record_bytes(form, image, place),
+        Salvage::NotSeen => [0; 102],
+        Salvage::Refused(_, _) => [0; 102],
+    }
+}
+
+// The first 64 of them.
+fn wide(all: [u8; 102]) -> [u8; 64]
+    ensures { λ r. ⌜ r ≡ padded 64 all ⌝ }
+{
+    let mut data = [0; 64];
+    let mut k = 0;
+    while k < 64 {
+        data[k] = all[k];
+        k += 1;
+    }
+    data
+}
+
+pub fn found_wide(form: Form, image: &[u8], answer: Answer) -> [u8; 64]
+    requires { ⌜ FoundFair form answer ⌝ }
+    ensures { λ r. ⌜ r ≡ wideBytes (now (image .entry)) (reader.foundPart form (now (image .entry)) answer) ⌝ }
+{
+    wide(found_bytes(form, image, answer))
 }
 
 pub fn seen_wide(form: Form, image: &[u8], seen: Salvage) -> [u8; 64]
     requires { ⌜ SeenFair form seen ⌝ }
-    ensures { λ r. ⌜ r ≡ wideBytes (now (image .entry)) (reader.seenPart form seen) ⌝ }
+    ensures { λ r. ⌜ r ≡ wideBytes (now (image .entry)) (reader.seenPart form (now (image .entry)) seen) ⌝ }
 {
-    match seen {
-        Salvage::Seen(place) => record_wide(form, image, place),
-        Salvage::NotSeen => [0; 64],
-        Salvage::Refused(_, _) => [0; 64],
-    }
+    wide(seen_bytes(form, image, seen))
 }
 
 // The first twelve of them.
-fn narrow(wide: [u8; 64]) -> [u8; 12]
-    ensures { λ r. ⌜ r ≡ padded 12 wide ⌝ }
+fn narrow(all: [u8; 102]) -> [u8; 12]
+    ensures { λ r. ⌜ r ≡ padded 12 all ⌝ }
 {
     [
-        wide[0],
-        wide[1],
-        wide[2],
-        wide[3],
-        wide[4],
-        wide[5],
-        wide[6],
-        wide[7],
-        wide[8],
-        wide[9],
-        wide[10],
-        wide[11],
+        all[0],
+        all[1],
+        all[2],
+        all[3],
+        all[4],
+        all[5],
+        all[6],
+        all[7],
+        all[8],
+        all[9],
+        all[10],
+        all[11],
     ]
 }
 
 // What is found in an HFS image.
 pub fn found_data(image: &[u8], answer: Answer) -> [u8; 12]
-    ensures { λ r. ⌜ r ≡ dataBytes (now (image .entry)) (foundPart answer) ⌝ }
+    ensures { λ r. ⌜ r ≡ dataBytes (now (image .entry)) (foundPart (now (image .entry)) answer) ⌝ }
 {
-    narrow(found_wide(of_hfs(), image, answer))
+    narrow(found_bytes(of_hfs(), image, answer))
 }
 
 pub fn seen_data(image: &[u8], seen: Salvage) -> [u8; 12]
-    ensures { λ r. ⌜ r ≡ dataBytes (now (image .entry)) (seenPart seen) ⌝ }
+    ensures { λ r. ⌜ r ≡ dataBytes (now (image .entry)) (seenPart (now (image .entry)) seen) ⌝ }
 {
-    narrow(seen_wide(of_hfs(), image, seen))
+    narrow(seen_bytes(of_hfs(), image, seen))
 }

@@ -72,6 +72,10 @@ module _ (form : Form) (img : List ℕ) (k : ℕ) where
       go none e NotSeen f = past e (n + suc left) (λ l j u v. f l j u (omega arith))
       go none e (Refused a b) f = f
 
+  -- the scan refuses nothing
+  pub never-refused : (n left a : ℕ) (p : Place) → seenFrom form img k n left ≡ Refused a p → ⊥
+  never-refused n left a p e = subst (From n left) e (from left n)
+
   -- the matches from node 1 up, of `total` nodes, in any words
   module _ (total : ℕ) (P : ℕ → ℕ → Type 0) (same : (n i : ℕ) → P n i ↔ ((1 ≤ n) × (n < total) × Has form img k n i)) where
     -- a first match that starts at p

@@ -10,7 +10,7 @@ use lib.Seq.{paste, paste-zero, paste-suc, length-paste, take-length, drop-at}
 use Rattle.btree.specs.Search.{answerOf}
 use Rattle.btree.proofs.Decisions.{cond-yes, cond-no}
 use Rattle.frame.specs.Form.{hfs}
-use Rattle.formats.specs.Key.{rank, unpacked, IsKey, decKey}
+use Rattle.extent_keys.specs.Key.{rank, unpacked, IsKey, decKey}
 use Rattle.formats.specs.Format.{view}
 use Rattle.search.specs.Rows.{resultOf, resultIn, filled}
 
@@ -19,7 +19,7 @@ module _ (img : List ℕ) (number : ℕ) where
   unfolding resultIn
   result-no-key h = cond-no (decKey number) _ _ h
 
-  pub result-key : IsKey number → resultIn img number ≡ resultOf (answerOf (view hfs img) (rank (unpacked number)))
+  pub result-key : IsKey number → resultIn img number ≡ resultOf img (answerOf (view hfs img) (rank (unpacked number)))
   unfolding resultIn
   result-key h = cond-yes (decKey number) _ _ h
 

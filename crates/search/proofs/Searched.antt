@@ -4,13 +4,14 @@ use mathlib.Core.List.{List}
 use Prim.Native.Nat.{ℕ, _/_, _<_}
 use lib.ListN.{length}
 use Rattle.btree.specs.Tree.{OnLevel}
-use Rattle.btree.specs.Header.{countOf, viewOf}
+use Rattle.btree.specs.Header.{viewOf}
 use Rattle.btree.specs.Image.{Sound}
 use Rattle.frame.specs.declared.form.Form.{Form}
 use Rattle.frame.specs.Form.{layoutOf, Fair}
 use Rattle.frame.proofs.Forms.{whole-node}
-use Rattle.formats.specs.Format.{Holds, kindOf, formatOf, view}
+use Rattle.formats.specs.Format.{formatOf, view}
 use Rattle.nodes.specs.Inside.{RecordsIn}
+use Rattle.nodes.proofs.Within.{records-within}
 use Rattle.search.specs.Descent.{Searchable}
 
 module _ (form : Form) (f : Fair form) (img : List ℕ) (s : Sound (layoutOf form) img (formatOf form)) where
@@ -20,8 +21,7 @@ module _ (form : Form) (f : Fair form) (img : List ℕ) (s : Sound (layoutOf for
       let r = s .nodes d n o .records in
       let t = s .header .totalNodes in
       let l : n < length img / form .size = rw (← t) (s .tree .inRange d n o) in
-      let h : Holds form (kindOf form img n) (countOf (layoutOf form) img n) = rw (r .isKind) (r .few) in
-      record { node = record { fair = f; inside = whole-node form (length img) n l }; few = h }
+      records-within form img n _ (record { fair = f; inside = whole-node form (length img) n l }) r
 
   pub searchable : Searchable form img
   unfolding viewOf

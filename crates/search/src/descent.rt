@@ -4,17 +4,17 @@ ghost use Prim.Native.Nat.{_≤_};
 ghost use Rattle.btree.specs.Halving.{before};
 ghost use Rattle.btree.specs.Search.{inLeaf, withKey, descentOf};
 ghost use Rattle.frame.specs.Form.{Fair};
-ghost use Rattle.formats.specs.Key.{rankOf};
+ghost use Rattle.formats.specs.Asked.{askedRank};
 ghost use Rattle.formats.specs.Format.{view};
 ghost use Rattle.search.specs.Descent.{Searchable, stoppedAt};
 use super::halving::halve;
 use btree::Answer;
 use btree::Lookup;
 use btree::Path;
-use formats::key::SortKey;
-use formats::key::is_same;
+use extent_keys::key::SortKey;
+use formats::keys::asked_same;
 use formats::records::child_of;
-use formats::records::key_of;
+use formats::records::record_at;
 use formats::records::record_place;
 use frame::form::Form;
 use image::bytes::be16;
@@ -33,24 +33,24 @@ fn absent(nodes: [u32; 8], len: u32, node: u32, compared: u32) -> Lookup
 }
 
 // What a leaf says of the key where halving ends here: the record before the end may have it.
-fn in_leaf(form: Form, image: &[u8], key: SortKey, node: u32, end: u32) -> Answer
+fn in_leaf(form: Form, image: &[u8], key: SortKey, name: &[u8], node: u32, end: u32) -> Answer
     requires { ⌜ Fair form × (end ≤ view form (now image) .count node) ⌝ }
-    ensures { λ r. ⌜ r ≡ inLeaf (view form (now (image .entry))) node (withKey (view form (now (image .entry))) (rankOf key) node (before end)) ⌝ }
+    ensures { λ r. ⌜ r ≡ inLeaf (view form (now (image .entry))) node (withKey (view form (now (image .entry))) (askedRank form key (now (name .entry))) node (before end)) ⌝ }
 {
     if end == 0 {
         return Answer::Absent(node);
     }
-    let last = key_of(form, image, node, end - 1);
-    if is_same(last, key) {
+    let last = record_at(form, image, node, end - 1);
+    if asked_same(form, key, name, image, last) {
         return Answer::Found(record_place(form, image, node, end - 1));
     }
     Answer::Absent(node)
 }
 
 // From the root down, in each index node by the highest pointer key not above the asked one.
-pub fn descend(form: Form, image: &[u8], key: SortKey) -> Lookup
+pub fn descend(form: Form, image: &[u8], key: SortKey, name: &[u8]) -> Lookup
     requires { ⌜ Searchable form (now image) ⌝ }
-    ensures { λ r. ⌜ r ≡ descentOf (view form (now (image .entry))) (rankOf key) ⌝ }
+    ensures { λ r. ⌜ r ≡ descentOf (view form (now (image .entry))) (askedRank form key (now (name .entry))) ⌝ }
 {
     let depth = be16(image, 14);
     let mut nodes = [0u32; 8];
@@ -62,7 +62,7 @@ pub fn descend(form: Form, image: &[u8], key: SortKey) -> Lookup
     let mut len: u32 = 1;
     let mut compared: u32 = 0;
     while len < depth {
-        let halved = halve(form, image, node, key);
+        let halved = halve(form, image, node, key, name);
         compared += halved.compared;
         let end = halved.end;
         if end == 0 {
@@ -72,12 +72,13 @@ pub fn descend(form: Form, image: &[u8], key: SortKey) -> Lookup
         nodes[len as usize] = node;
         len += 1;
     }
-    let halved = halve(form, image, node, key);
-    let answer = in_leaf(form, image, key, node, halved.end);
+    let halved = halve(form, image, node, key, name);
+    compared += halved.compared;
+    let answer = in_leaf(form, image, key, name, node, halved.end);
     let path = Path { nodes, len };
     Lookup {
         answer,
         path,
-        compared: compared + halved.compared,
+        compared,
     }
 }

@@ -5,10 +5,11 @@ ghost use lib.ListN.{length};
 ghost use Rattle.search.specs.Rows.{resultIn, filled, Placeable};
 use super::descent::descend;
 use btree::Answer;
-use formats::key::is_key;
-use formats::key::unpack;
+use extent_keys::key::is_key;
+use extent_keys::key::unpack;
 use formats::records::data_at;
 use frame::form::of_hfs;
+use image::part::no_part;
 
 fn result_in(image: &[u8], number: u64) -> u32
     requires { ⌜ Placeable (now image) ⌝ }
@@ -18,10 +19,10 @@ fn result_in(image: &[u8], number: u64) -> u32
         return 1;
     }
     let form = of_hfs();
-    let found = descend(form, image, unpack(number));
+    let found = descend(form, image, unpack(number), no_part(image));
     let answer = found.answer;
     match answer {
-        Answer::Found(place) => data_at(form, place) as u32,
+        Answer::Found(place) => data_at(form, image, place) as u32,
         Answer::Absent(_) => 0,
         Answer::Refused(_, _) => 1,
     }

@@ -9,9 +9,9 @@ use lib.Dec.{eqb, ltb}
 use borrow.Author.Tests.{eq-eqb, eqb-true, ltb-true, lt-ltb}
 use Rattle.image.specs.Bit.{bitOf}
 use Rattle.btree.specs.Decide.{says}
-use Rattle.nodes.specs.Tells.{pick}
+use Rattle.btree.specs.Tells.{pick}
 use Rattle.step.specs.State.{freshIn}
-use Rattle.nodes.proofs.Telling.{tells-says}
+use Rattle.btree.proofs.Telling.{tells-says}
 
 module _ (total : ℕ) (bits : List ℕ) (n : ℕ) where
   pub record Free : Type 0 where

@@ -12,7 +12,7 @@ use Rattle.image.specs.Set.{withBit}
 use Rattle.image.proofs.Laws.{marked-same, marked-other, bit-small}
 use Rattle.btree.specs.declared.Verdict.{Verdict}
 use Rattle.step.specs.declared.state.Walk.{Walk}
-use Rattle.nodes.specs.Tells.{pick}
+use Rattle.btree.specs.Tells.{pick}
 use Rattle.step.specs.State.{state, stopped, kept}
 use Rattle.step.specs.Room.{ones, Small}
 

@@ -13,7 +13,7 @@ use Rattle.btree.specs.Decide.{ifZero}
 use Rattle.btree.specs.Tree.{View}
 use Rattle.btree.specs.Walk.{Entry, firstOr, test}
 use Rattle.frame.specs.declared.form.Form.{Form}
-use Rattle.nodes.specs.Tells.{pick}
+use Rattle.btree.specs.Tells.{pick}
 use Rattle.order.specs.Bound.{bound}
 use Rattle.step.specs.declared.state.Walk.{Walk}
 

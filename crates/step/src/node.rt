@@ -6,7 +6,7 @@ ghost use Rattle.btree.specs.Decide.{says};
 ghost use Rattle.btree.specs.Walk.{decLeads, test};
 ghost use Rattle.formats.specs.Format.{view};
 ghost use Rattle.frame.specs.Form.{Fair};
-ghost use Rattle.nodes.specs.Inside.{NodeIn};
+ghost use Rattle.frame.specs.Inside.{NodeIn};
 ghost use Rattle.step.specs.State.{freshIn, entry};
 use btree::Hit;
 use btree::Place;

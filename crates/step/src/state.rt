@@ -1,7 +1,7 @@
 // What the walk of the tree keeps, and what a node adds to it.
 ghost use mathlib.Core.Path.{_≡_};
 ghost use Prim.Native.Nat.{_<_, _≤_};
-ghost use Rattle.nodes.specs.Tells.{pick};
+ghost use Rattle.btree.specs.Tells.{pick};
 ghost use Rattle.step.specs.State.{stopped, firstWith, kept, lastAt};
 ghost use Rattle.step.specs.Room.{Keepable};
 use btree::Place;

@@ -10,8 +10,8 @@ use Rattle.btree.specs.Places.{byteOf}
 use Rattle.btree.specs.Walk.{fails}
 use Rattle.btree.specs.Numbers.{lookupNumbers, salvageReply}
 use Rattle.btree.specs.Halving.{halved}
-use Rattle.formats.specs.declared.key.Key.{Key}
-use Rattle.formats.specs.Key.{Lawful, packed, compared, asked}
+use Rattle.extent_keys.specs.declared.key.Key.{Key}
+use Rattle.extent_keys.specs.Key.{Lawful, packed, compared, asked}
 use Rattle.extents.specs.Reader.{needed, checked, lookedUp, salvaged}
 use Rattle.vectors.specs.Build.{keyBytes, E1, L1, twoLeaves, twoLeavesUnder, threeLevelsUnder}
 

@@ -25,7 +25,7 @@ use Rattle.btree.proofs.Clean.{test-zero}
 use Rattle.btree.proofs.TreeRules.{tree-deep}
 use Rattle.btree.proofs.Ordered.{if-zero, if-other}
 use Rattle.btree.proofs.MapBits.{bit-for, bit-not}
-use Rattle.nodes.specs.Tells.{pick}
+use Rattle.btree.specs.Tells.{pick}
 use Rattle.step.specs.State.{State, state, freshIn, stopped, firstWith, kept, lastAt, step}
 use Rattle.walk.specs.Visit.{steps}
 use Rattle.step.proofs.Lands.{step-stops, step-keeps}

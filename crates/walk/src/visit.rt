@@ -10,16 +10,16 @@ ghost use Rattle.step.specs.Ready.{Ready, Gives};
 ghost use Rattle.walk.specs.Visit.{steps, Points};
 use btree::Place;
 use formats::records::child_place;
-use formats::records::key_size;
 use formats::records::record_at;
-use formats::records::record_step;
 use frame::form::Form;
+use frame::form::key_size;
 use frame::node::count_of;
 use image::bytes::be32;
 use step::state::Walk;
 use step::stepped;
 
-// A record of an index node: the child and where its number stands, and where the key stands that points at it and the one that bounds the keys there.
+// A record of an index node: the child and where its number stands, and the bytes after those at which the key stands that points at it and the one that
+// bounds the keys there.
 pub struct Pointer {
     pub child: u32,
     pub from: Place,
@@ -33,8 +33,9 @@ fn pointer_at(form: Form, image: &[u8], node: u32, i: u32, c: u32, high: usize) 
     ensures { λ r. ⌜ Points form (now (image .entry)) node i high r ⌝ }
 {
     let from = child_place(form, image, node, i);
-    let low = record_at(form, image, node, i);
-    let child = be32(image, low + (key_size(form) as usize));
+    let start = record_at(form, image, node, i);
+    let child = be32(image, start + (key_size(form) as usize));
+    let low = start + 1;
     if i + 1 >= c {
         return Pointer {
             child,
@@ -43,7 +44,7 @@ fn pointer_at(form: Form, image: &[u8], node: u32, i: u32, c: u32, high: usize) 
             high,
         };
     }
-    let next = low + record_step(form, image, node);
+    let next = record_at(form, image, node, i + 1) + 1;
     Pointer {
         child,
         from,

@@ -9,8 +9,8 @@ use Rattle.btree.specs.Walk.{fails}
 use Rattle.btree.specs.Numbers.{lookupReply}
 use Rattle.btree.specs.Work.{workLeft}
 use Rattle.frame.specs.Form.{hfs, layoutOf}
-use Rattle.formats.specs.declared.key.Key.{Key}
-use Rattle.formats.specs.Key.{asked}
+use Rattle.extent_keys.specs.declared.key.Key.{Key}
+use Rattle.extent_keys.specs.Key.{asked}
 use Rattle.formats.specs.Format.{formatOf}
 use Rattle.extents.specs.Reader.{checked, lookedUp}
 use Rattle.vectors.specs.Build.{put, be32, header, E1, E2, L1, twoLeaves}

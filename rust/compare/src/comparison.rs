@@ -1,24 +1,17 @@
-//! The same questions to both readers.
+//! The same questions about extents trees to both readers.
 
+use crate::asking::{Asking, Other, REFERENCE};
 use crate::expected;
 use crate::form::Form;
 use crate::hfs_calls;
 use crate::keys;
-use crate::lent::{Lender, Row};
-use crate::question::Question;
+use crate::lent::Row;
+use crate::question::{Question, Tree};
 use crate::seed::seed;
 use crate::tally::Tally;
 use hfs_btree::editions::{self, Answer, SalvageAnswer};
 use images::{Format, Key};
-use std::fmt::Debug;
 
-/// Asks a reader with the bytes lent to it.
-type Ask<'a, T> = &'a dyn Fn(&mut [u8]) -> T;
-
-/// A reader by its name, which is to say what the proved one does.
-type Other<'a, T> = (&'static str, Ask<'a, T>);
-
-const REFERENCE: &str = "reference";
 const HFS_CALL: &str = "proved, by the call for HFS";
 
 const UNLISTED_FORM: u32 = 25;
@@ -27,18 +20,16 @@ const UNLISTED_FORM: u32 = 25;
 pub struct Comparison {
     family: &'static str,
     form: Form,
-    tally: Tally,
-    lender: Lender,
+    asking: Asking,
 }
 
 impl Comparison {
     pub fn new(family: &'static str, format: Format) -> Comparison {
-        let (tally, lender) = (Tally::default(), Lender::new(seed()));
-        Comparison { family, form: format.into(), tally, lender }
+        Comparison { family, form: format.into(), asking: Asking::new(seed()) }
     }
 
     pub fn tally(&self) -> Tally {
-        self.tally
+        self.asking.tally
     }
 
     /// Compares the verdicts on an image and the answers for each key; in HFS also those for all keys
@@ -49,11 +40,11 @@ impl Comparison {
 
     /// The same, with a form that the image need not have.
     pub fn ask_as(&mut self, form: Form, image: &[u8], asked: impl IntoIterator<Item = Key>) {
-        self.tally.images += 1;
+        self.asking.tally.images += 1;
         self.check(form, image);
         let mut row = Vec::new();
         for key in asked {
-            self.tally.pairs += 1;
+            self.asking.tally.pairs += 1;
             self.lookup(form, image, key);
             self.salvage(form, image, key);
             row.extend(hfs_calls::can_ask(key).then(|| keys::packed(key)));
@@ -72,8 +63,8 @@ impl Comparison {
         let others = &others[..self.others(form == Form::HFS)];
         let proved = |work: &mut [u8]| editions::check(edition, node_size, image, work);
         let question = self.question(form, image, "check");
-        if self.with_lent(question, &proved, others).number == UNLISTED_FORM {
-            self.tally.unlisted += 1;
+        if self.asking.with_lent(question, &proved, others).number == UNLISTED_FORM {
+            self.asking.tally.unlisted += 1;
         }
     }
 
@@ -88,9 +79,9 @@ impl Comparison {
         let proved =
             |work: &mut [u8]| editions::lookup(edition, node_size, image, file, fork, start, work);
         let question = self.question(form, image, key);
-        match self.with_lent(question, &proved, others).answer {
-            Answer::Found { .. } => self.tally.found += 1,
-            Answer::Absent { .. } => self.tally.absent += 1,
+        match self.asking.with_lent(question, &proved, others).answer {
+            Answer::Found { .. } => self.asking.tally.found += 1,
+            Answer::Absent { .. } => self.asking.tally.absent += 1,
             Answer::Refused { .. } => {}
         }
     }
@@ -105,18 +96,18 @@ impl Comparison {
             if hfs_calls::can_ask(key) {
                 question.same(&got, HFS_CALL, &hfs_calls::salvage(image, key));
             } else {
-                self.tally.high_starts += 1;
+                self.asking.tally.high_starts += 1;
             }
         }
         if let SalvageAnswer::Seen { .. } = got.answer {
-            self.tally.seen += 1;
+            self.asking.tally.seen += 1;
         }
     }
 
     /// The keys with some numbers that are none among them, in any order, with fewer results than
     /// keys, as many, or more.
     pub fn ask_at_once(&mut self, image: &[u8], keys: Vec<u64>) {
-        let row = self.lender.row(keys);
+        let row = self.asking.lender.row(keys);
         let Row { keys, results } = &row;
         let proved = |work: &mut [u8]| {
             let mut left = results.clone();
@@ -125,62 +116,20 @@ impl Comparison {
         let expected = |work: &mut [u8]| expected::lookup_many(image, keys, results.clone(), work);
         let asked = (keys.len(), results.len(), "keys and results");
         let question = self.question(Form::HFS, image, asked);
-        let got = self.with_lent(question, &proved, &[(REFERENCE, &expected)]);
-        self.tally.rows += 1;
+        let got = self.asking.with_lent(question, &proved, &[(REFERENCE, &expected)]);
+        self.asking.tally.rows += 1;
         if got.0.number == 0 {
-            self.tally.row_keys += keys.len() as u64;
+            self.asking.tally.row_keys += keys.len() as u64;
         }
     }
 
     fn question<'a, A>(&self, form: Form, image: &'a [u8], asked: A) -> Question<'a, A> {
-        Question { family: self.family, form, image, asked }
+        Question { family: self.family, tree: Tree::Extents(form), image, asked }
     }
 
     /// How many others are asked, the reference first and the call for HFS last.
     fn others(&mut self, by_hfs_call: bool) -> usize {
-        self.tally.by_hfs_calls += u64::from(by_hfs_call);
+        self.asking.tally.by_hfs_calls += u64::from(by_hfs_call);
         1 + usize::from(by_hfs_call)
     }
-
-    /// Asks once with fewer working bytes than the image needs, where it needs any, and once with
-    /// enough or more, and compares the answers and every byte afterwards. Says what the second got.
-    fn with_lent<T: Debug + PartialEq, A: Debug + Copy>(
-        &mut self,
-        question: Question<A>,
-        proved: Ask<T>,
-        others: &[Other<T>],
-    ) -> T {
-        let (node_size, len) = (question.form.node_size, question.image.len());
-        let needed = editions::needed_work(node_size, len);
-        let expected = reference::editions::needed_work(node_size, len);
-        question.about("needed working bytes").same(&needed, REFERENCE, &expected);
-        if let Some(work) = self.lender.too_few(needed) {
-            self.tally.too_few += 1;
-            same_work(question, work, proved, others);
-        }
-        let work = self.lender.enough(needed);
-        if work.len() == needed {
-            self.tally.enough += 1;
-        } else {
-            self.tally.more += 1;
-        }
-        same_work(question, work, proved, others)
-    }
-}
-
-/// Asks each reader with the same bytes lent, and says what the proved one got.
-fn same_work<T: Debug + PartialEq, A: Debug + Copy>(
-    question: Question<A>,
-    work: Vec<u8>,
-    proved: Ask<T>,
-    others: &[Other<T>],
-) -> T {
-    let mut left = work.clone();
-    let got = proved(&mut left);
-    for (name, other) in others {
-        let mut others_left = work.clone();
-        question.same(&got, name, &other(&mut others_left));
-        question.about((question.asked, "working bytes")).same(&left, name, &others_left);
-    }
-    got
 }

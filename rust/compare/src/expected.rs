@@ -13,6 +13,12 @@ pub fn lookup(form: Form, image: &[u8], key: Key, work: &mut [u8]) -> Lookup {
     let Form { edition, node_size } = form;
     let Key { file, fork, start } = key;
     let said = reference::editions::lookup(edition, node_size, image, file, fork, start, work);
+    let data = data(image, said.data.clone());
+    looked_up(said, data)
+}
+
+/// The answer to a lookup, with its data in the proved reader's words.
+pub fn looked_up<Data>(said: reference::Lookup, data: Data) -> hfs_btree::Lookup<Data> {
     let answer = match said.answer {
         reference::Answer::Found { place: said } => Answer::Found { place: place(said) },
         reference::Answer::Absent { node } => Answer::Absent { node },
@@ -22,7 +28,7 @@ pub fn lookup(form: Form, image: &[u8], key: Key, work: &mut [u8]) -> Lookup {
     };
     let reference::Lookup { compared, path, .. } = said;
     let path_len = said.path_len as u32;
-    Lookup { answer, compared, path, path_len, data: data(image, said.data) }
+    hfs_btree::Lookup { answer, compared, path, path_len, data }
 }
 
 /// The verdict, and the results as they are left.
@@ -40,6 +46,12 @@ pub fn salvage(form: Form, image: &[u8], key: Key) -> Salvage {
     let Form { edition, node_size } = form;
     let Key { file, fork, start } = key;
     let said = reference::editions::salvage(edition, node_size, image, file, fork, start);
+    let data = data(image, said.data.clone());
+    salvaged(said, data)
+}
+
+/// The answer to a salvage, with its data in the proved reader's words.
+pub fn salvaged<Data>(said: reference::Salvage, data: Data) -> hfs_btree::Salvage<Data> {
     let answer = match said.answer {
         reference::SalvageAnswer::Seen { place: said } => {
             SalvageAnswer::Seen { place: place(said) }
@@ -49,10 +61,10 @@ pub fn salvage(form: Form, image: &[u8], key: Key) -> Salvage {
             SalvageAnswer::Refused { number, place: place(said) }
         }
     };
-    Salvage { answer, data: data(image, said.data) }
+    hfs_btree::Salvage { answer, data }
 }
 
-fn verdict(said: reference::Verdict) -> Verdict {
+pub fn verdict(said: reference::Verdict) -> Verdict {
     let reference::Verdict { number, place: said } = said;
     Verdict { number, place: place(said) }
 }

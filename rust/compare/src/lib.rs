@@ -1,5 +1,7 @@
 //! Asks the proved reader and the reference the same questions and stops at the first difference.
 
+mod asking;
+pub mod catalog;
 mod comparison;
 mod expected;
 pub mod families;

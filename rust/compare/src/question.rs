@@ -2,17 +2,44 @@
 
 use crate::form::Form;
 use crate::seed::{seed, SEED_VARIABLE};
-use std::fmt::Debug;
+use std::fmt::{self, Debug, Display};
 use std::{env, fs};
 
 const MOST_SHOWN: usize = 2_048;
 const MOST_WRITTEN: usize = 1 << 28;
 
+/// What an image is taken for.
+#[derive(Clone, Copy)]
+pub enum Tree {
+    Extents(Form),
+    Catalog,
+}
+
+impl Tree {
+    pub fn node_size(self) -> u32 {
+        match self {
+            Tree::Extents(form) => form.node_size,
+            Tree::Catalog => 512,
+        }
+    }
+}
+
+impl Display for Tree {
+    fn fmt(&self, f: &mut fmt::Formatter<'_>) -> fmt::Result {
+        match self {
+            Tree::Extents(Form { edition, node_size }) => {
+                write!(f, "edition {edition}, node size {node_size}")
+            }
+            Tree::Catalog => write!(f, "catalog"),
+        }
+    }
+}
+
 #[derive(Clone, Copy)]
 pub struct Question<'a, A> {
     /// The family of images that it belongs to.
     pub family: &'static str,
-    pub form: Form,
+    pub tree: Tree,
     pub image: &'a [u8],
     pub asked: A,
 }
@@ -20,7 +47,7 @@ pub struct Question<'a, A> {
 impl<'a, A> Question<'a, A> {
     /// The same question about something else that the readers leave.
     pub fn about<B>(&self, asked: B) -> Question<'a, B> {
-        Question { family: self.family, form: self.form, image: self.image, asked }
+        Question { family: self.family, tree: self.tree, image: self.image, asked }
     }
 }
 
@@ -28,11 +55,10 @@ impl<A: Debug> Question<'_, A> {
     /// Stops the run unless the reader of this name says what the proved one does.
     pub fn same<T: Debug + PartialEq>(&self, got: &T, reader: &str, said: &T) {
         if got != said {
-            let Question { family, form, asked, .. } = self;
-            let Form { edition, node_size } = form;
+            let Question { family, tree, asked, .. } = self;
             let (shown, seed) = (self.show(), seed());
             panic!(
-                "{family}: the readers differ on {asked:?}, edition {edition}, node size {node_size}\n  \
+                "{family}: the readers differ on {asked:?}, {tree}\n  \
                  proved: {got:?}\n  {reader}: {said:?}\n  {shown}\n  {SEED_VARIABLE}={seed}"
             );
         }
@@ -48,8 +74,8 @@ impl<A: Debug> Question<'_, A> {
         if len > MOST_WRITTEN {
             return format!("image of {len} bytes, too long to write");
         }
-        let Question { family, form, .. } = self;
-        let name = format!("hfs_difference_{family}_{}_{}.img", form.edition, form.node_size);
+        let Question { family, tree, .. } = self;
+        let name = format!("hfs_difference_{family}_{tree}.img").replace([' ', ','], "_");
         let file = env::temp_dir().join(name);
         match fs::write(&file, self.image) {
             Ok(()) => format!("image of {len} bytes in {}", file.display()),
@@ -60,13 +86,13 @@ impl<A: Debug> Question<'_, A> {
 
 #[cfg(test)]
 mod tests {
-    use super::{Form, Question};
+    use super::{Form, Question, Tree};
 
     #[test]
     #[should_panic(expected = "the readers differ on \"check\", edition 0, node size 512")]
     fn a_difference_stops_the_run() {
-        let (form, asked) = (Form::HFS, "check");
-        let question = Question { family: "difference", form, image: &[1, 2], asked };
+        let (tree, asked) = (Tree::Extents(Form::HFS), "check");
+        let question = Question { family: "difference", tree, image: &[1, 2], asked };
         question.same(&3, "reference", &4);
     }
 }

@@ -1,6 +1,8 @@
-//! Compares the two readers on every family of images in every format, on as many threads as there
-//! are cores.
+//! Compares the two readers on every family of images, of extents in every format and of catalogs, on
+//! as many threads as there are cores.
 
+use compare::catalog::families::{CatalogFamily, CATALOG_FAMILIES};
+use compare::catalog::CatalogComparison;
 use compare::families::{Family, FAMILIES};
 use compare::{seed, Comparison, Tally};
 use images::Format;
@@ -11,6 +13,13 @@ use std::time::Instant;
 
 /// Fewer pairs than this, in any format, would be no comparison.
 const LEAST_PAIRS: u64 = 10_000;
+
+/// What one thread compares at a time.
+#[derive(Clone, Copy)]
+enum Job {
+    Extents(&'static Family, Format),
+    Catalogs(&'static CatalogFamily),
+}
 
 /// A family in a format, with what was asked and how long it took.
 struct Part {
@@ -24,31 +33,37 @@ fn main() {
     let seed = seed();
     println!("comparing the proved reader with the reference, seed {seed}");
     let parts = run_all(seed);
-    for family in &FAMILIES {
-        print_sum(family.name, &parts, |part| part.family == family.name);
+    let catalog_names = CATALOG_FAMILIES.iter().map(|family| family.name);
+    for name in FAMILIES.iter().map(|family| family.name).chain(catalog_names) {
+        print_sum(name, &parts, |part| part.family == name);
     }
-    for format in Format::all() {
-        let name = format!("{:?}, {} bytes", format.edition, format.node_size);
+    for format in Format::all().chain([Format::CATALOG]) {
+        let Format { edition, tree, node_size } = format;
+        let name = format!("{edition:?} {tree:?}, {node_size} bytes");
         let tally = print_sum(&name, &parts, |part| part.format == format);
         assert!(tally.pairs >= LEAST_PAIRS, "fewer than {LEAST_PAIRS} pairs of {name}");
     }
     print_total(print_sum("all", &parts, |_| true));
 }
 
-/// Threads of the usual stack size, as a caller's would be, take one family in one format at a time.
+/// The jobs are in the order of their families, so that those that take longest come first.
+fn jobs() -> Vec<Job> {
+    let catalogs = CATALOG_FAMILIES.iter().map(Job::Catalogs);
+    let of_family = |family| Format::all().map(move |format| Job::Extents(family, format));
+    FAMILIES.iter().flat_map(of_family).chain(catalogs).collect()
+}
+
+/// Threads of the usual stack size, as a caller's would be, take one job at a time.
 fn run_all(seed: u64) -> Vec<Part> {
-    let jobs: Vec<(&Family, Format)> = FAMILIES
-        .iter()
-        .flat_map(|family| Format::all().map(move |format| (family, format)))
-        .collect();
+    let jobs = jobs();
     let next = AtomicUsize::new(0);
     let parts = Mutex::new(Vec::new());
     let workers = thread::available_parallelism().map_or(1, usize::from);
     thread::scope(|scope| {
         for _ in 0..workers {
             scope.spawn(|| {
-                while let Some(&(family, format)) = jobs.get(next.fetch_add(1, Ordering::Relaxed)) {
-                    let part = run(family, format, seed);
+                while let Some(&job) = jobs.get(next.fetch_add(1, Ordering::Relaxed)) {
+                    let part = run(job, seed);
                     parts.lock().expect("no thread panicked").push(part);
                 }
             });
@@ -57,12 +72,21 @@ fn run_all(seed: u64) -> Vec<Part> {
     parts.into_inner().expect("no thread panicked")
 }
 
-fn run(family: &Family, format: Format, seed: u64) -> Part {
+fn run(job: Job, seed: u64) -> Part {
     let started = Instant::now();
-    let mut comparison = Comparison::new(family.name, format);
-    (family.run)(&mut comparison, format, seed);
-    let seconds = started.elapsed().as_secs_f64();
-    Part { family: family.name, format, tally: comparison.tally(), seconds }
+    let (family, format, tally) = match job {
+        Job::Extents(family, format) => {
+            let mut comparison = Comparison::new(family.name, format);
+            (family.run)(&mut comparison, format, seed);
+            (family.name, format, comparison.tally())
+        }
+        Job::Catalogs(family) => {
+            let mut comparison = CatalogComparison::new(family.name);
+            (family.run)(&mut comparison, seed);
+            (family.name, Format::CATALOG, comparison.tally())
+        }
+    };
+    Part { family, format, tally, seconds: started.elapsed().as_secs_f64() }
 }
 
 /// Prints what the chosen parts come to, and says it.
@@ -75,7 +99,7 @@ fn print_sum(name: &str, parts: &[Part], is_chosen: impl Fn(&Part) -> bool) -> T
     }
     let Tally { images, pairs, found, absent, seen, .. } = sum;
     println!(
-        "{name:24}{images:9} images{pairs:9} pairs: {found:8} found{absent:8} absent{seen:8} seen{seconds:7.1} s"
+        "{name:30}{images:9} images{pairs:9} pairs: {found:8} found{absent:8} absent{seen:8} seen{seconds:7.1} s"
     );
     sum
 }

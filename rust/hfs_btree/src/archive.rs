@@ -66,6 +66,33 @@ extern "C" {
         out: *mut [u32; 3],
         data: *mut [u8; 64],
     );
+    fn hfs_catalog_check(
+        image: *const u8,
+        len: usize,
+        work: *mut u8,
+        work_len: usize,
+        out: *mut [u32; 3],
+    );
+    fn hfs_catalog_lookup(
+        image: *const u8,
+        len: usize,
+        parent: u32,
+        name: *const u8,
+        name_len: usize,
+        work: *mut u8,
+        work_len: usize,
+        out: *mut [u32; 15],
+        data: *mut [u8; 102],
+    );
+    fn hfs_catalog_salvage(
+        image: *const u8,
+        len: usize,
+        parent: u32,
+        name: *const u8,
+        name_len: usize,
+        out: *mut [u32; 5],
+        data: *mut [u8; 102],
+    );
 }
 
 // What a call does not write would show as a number that no answer has.
@@ -170,5 +197,47 @@ pub fn extents_salvage(
     unsafe {
         hfs_extents_salvage(edition, node_size, bytes, len, file, fork, start, &mut out, &mut data)
     };
+    (out, data)
+}
+
+pub fn catalog_check(image: &[u8], work: &mut [u8]) -> [u32; 3] {
+    let mut out = [UNWRITTEN; 3];
+    let (bytes, len) = (image.as_ptr(), image.len());
+    let (lent, lent_len) = (work.as_mut_ptr(), work.len());
+    // SAFETY: the image is a live slice and only read, `work` is a live slice lent to write, and `out`
+    // is an array of its own.
+    unsafe { hfs_catalog_check(bytes, len, lent, lent_len, &mut out) };
+    out
+}
+
+pub fn catalog_lookup(
+    image: &[u8],
+    parent: u32,
+    name: &[u8],
+    work: &mut [u8],
+) -> ([u32; 15], [u8; 102]) {
+    let mut out = [UNWRITTEN; 15];
+    let mut data = [UNWRITTEN_BYTE; 102];
+    let (bytes, len) = (image.as_ptr(), image.len());
+    let (asked, asked_len) = (name.as_ptr(), name.len());
+    let (lent, lent_len) = (work.as_mut_ptr(), work.len());
+    // SAFETY: the image and the name are live slices and only read, `work` is a live slice lent to
+    // write, and `out` and `data` are arrays of their own.
+    unsafe {
+        hfs_catalog_lookup(
+            bytes, len, parent, asked, asked_len, lent, lent_len, &mut out, &mut data,
+        )
+    };
+    (out, data)
+}
+
+pub fn catalog_salvage(image: &[u8], parent: u32, name: &[u8]) -> ([u32; 5], [u8; 102]) {
+    let mut out = [UNWRITTEN; 5];
+    let mut data = [UNWRITTEN_BYTE; 102];
+    let (bytes, len) = (image.as_ptr(), image.len());
+    let (asked, asked_len) = (name.as_ptr(), name.len());
+    // SAFETY: the image and the name are live slices and only read, and `out` and `data` are arrays of
+    // their own.
+    unsafe { hfs_catalog_salvage(bytes, len, parent, asked, asked_len, &mut out, &mut data) };
     (out, data)
 }

@@ -1,12 +1,15 @@
-//! The proved reader of extents overflow files, of HFS and HFS Plus, as safe functions on any bytes.
+//! The proved reader of extents overflow files, of HFS and HFS Plus, and of HFS catalog files, as safe
+//! functions on any bytes.
 //!
 //! An image need not have been checked before: `lookup` and `lookup_many` check it whole, and `salvage`
 //! trusts no node. `check` and the lookups work in bytes that the caller lends, one bit for each node
 //! of the image; [`needed_work`] says how many that is.
 //!
-//! The functions here read HFS; those in [`editions`] read HFS and HFS Plus.
+//! The functions here read extents of HFS; those in [`editions`] read extents of HFS and HFS Plus, and
+//! those in [`catalog`] the catalog of HFS.
 
 mod archive;
+pub mod catalog;
 pub mod editions;
 
 /// How many working bytes a check of an image of this length, or a lookup in it, needs.
@@ -59,7 +62,7 @@ pub struct Lookup<Data = [u8; 12]> {
     /// Nodes read from the root down; unused places are 0.
     pub path: [u32; 8],
     pub path_len: u32,
-    /// The data of a found record, else zeros; in [`editions`], else none.
+    /// The data of a found record, else zeros; in [`editions`] and [`catalog`], else none.
     pub data: Data,
 }
 
@@ -103,7 +106,7 @@ pub enum SalvageAnswer {
 #[derive(Clone, Copy, Debug, PartialEq, Eq)]
 pub struct Salvage<Data = [u8; 12]> {
     pub answer: SalvageAnswer,
-    /// The data of a seen record, else zeros; in [`editions`], else none.
+    /// The data of a seen record, else zeros; in [`editions`] and [`catalog`], else none.
     pub data: Data,
 }
 

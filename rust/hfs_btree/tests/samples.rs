@@ -1,7 +1,7 @@
 //! The sample images of the repository, as the generator makes them, and what the proved reader says of them.
 
 use hfs_btree::editions::{check, needed_work, Edition, Place, Verdict};
-use images::{bench, samples, Key};
+use images::{bench, catalog, samples, Key};
 use std::path::Path;
 
 fn sample(name: &str) -> Vec<u8> {
@@ -39,4 +39,20 @@ fn of_hfs_plus() {
     // A header that has another node size, or the key length of the other edition.
     assert_eq!(says(Edition::HfsPlus, 512, &made), (2, 0, 0));
     assert_eq!(says(Edition::Hfs, 512, &made), (2, 0, 0));
+}
+
+#[test]
+fn of_the_catalog() {
+    let all = [
+        ("catalog_cartridge.img", catalog::bench::cartridge()),
+        ("catalog_three_level.img", catalog::samples::three_level().image),
+    ];
+    for (name, made) in all {
+        assert_eq!(sample(name), made, "{name}");
+        let mut work = vec![0; needed_work(512, made.len())];
+        let sound = Verdict { number: 0, place: Place { node: 0, offset: 0 } };
+        assert_eq!(hfs_btree::catalog::check(&made, &mut work), sound, "{name}");
+        // A header with the key length of the other tree.
+        assert_eq!(says(Edition::Hfs, 512, &made), (2, 0, 0), "{name}");
+    }
 }

@@ -8,32 +8,33 @@ use crate::numbering::{number_nodes, Numbering};
 use crate::plan::Plan;
 use crate::rng::Rng;
 use crate::shape::{add_pointers, make_records, share_nodes, share_records};
+use crate::tree_key::TreeKey;
 use std::ops::Range;
 
 /// A sound image and what it holds.
-pub struct Built {
+pub struct Built<K = Key> {
     pub format: Format,
     pub image: Vec<u8>,
     /// Map nodes in the order of the chain.
     pub map_chain: Vec<u32>,
     /// Levels of the tree, root first.
-    pub levels: Vec<Level>,
+    pub levels: Vec<Level<K>>,
     /// Leaf records in leaf order.
-    pub records: Vec<Record>,
+    pub records: Vec<Record<K>>,
     /// Free nodes, ascending.
     pub free: Vec<u32>,
 }
 
 /// One level of the tree; nodes are told apart by their position from left to right.
-pub struct Level {
+pub struct Level<K = Key> {
     pub numbers: Vec<u32>,
     /// Of each node: its children on the level below, or its records if it is a leaf.
     pub groups: Vec<Range<usize>>,
     /// Of each node: its first key, which the pointer record that leads to it has as well.
-    pub pointers: Vec<Key>,
+    pub pointers: Vec<K>,
 }
 
-impl Built {
+impl<K> Built<K> {
     pub fn total(&self) -> u32 {
         (self.image.len() / self.format.node_size) as u32
     }
@@ -50,18 +51,28 @@ impl Built {
 
 /// Builds the image of a plan; the same plan always gives the same bytes.
 pub fn build(plan: &Plan) -> Built {
-    assert!(plan.total_nodes() <= MOST_NODES, "too many nodes planned");
     let mut rng = Rng::new(plan.seed);
-    let mut groups = share_nodes(&mut rng, plan);
+    let groups = share_nodes(&mut rng, plan);
     let record_groups = share_records(&mut rng, plan);
     let record_count = record_groups.last().map_or(0, |group| group.end);
+    let records = make_records(&mut rng, plan.format, record_count);
+    lay_out(&mut rng, plan, groups, record_groups, records)
+}
+
+/// Builds the image whose leaves have these groups of records, under these groups of children.
+pub fn lay_out<K: TreeKey>(
+    rng: &mut Rng,
+    plan: &Plan,
+    mut groups: Vec<Vec<Range<usize>>>,
+    record_groups: Vec<Range<usize>>,
+    records: Vec<Record<K>>,
+) -> Built<K> {
+    assert!(plan.total_nodes() <= MOST_NODES, "too many nodes planned");
     if !plan.level_sizes.is_empty() {
         groups.push(record_groups);
     }
-    let records = make_records(&mut rng, plan.format, record_count);
     let shape = add_pointers(groups, &records);
-    let numbering = number_nodes(&mut rng, plan);
-    let Numbering { map_chain, levels, free } = numbering;
+    let Numbering { map_chain, levels, free } = number_nodes(rng, plan);
     let levels = levels
         .into_iter()
         .zip(shape)
@@ -70,11 +81,11 @@ pub fn build(plan: &Plan) -> Built {
     let format = plan.format;
     let image = vec![0; plan.total_nodes() * format.node_size];
     let mut built = Built { format, image, map_chain, levels, records, free };
-    write_image(&mut rng, plan, &mut built);
+    write_image(rng, plan, &mut built);
     built
 }
 
-fn write_image(rng: &mut Rng, plan: &Plan, built: &mut Built) {
+fn write_image<K: TreeKey>(rng: &mut Rng, plan: &Plan, built: &mut Built<K>) {
     write_header_node(rng, plan, built);
     for (index, &number) in built.map_chain.iter().enumerate() {
         let node = map_node(rng, plan, built.map_chain.get(index + 1).copied());
@@ -95,8 +106,8 @@ fn write_image(rng: &mut Rng, plan: &Plan, built: &mut Built) {
     write_map_bits(built);
 }
 
-fn write_header_node(rng: &mut Rng, plan: &Plan, built: &mut Built) {
-    let ends = |level: &Level| Some((*level.numbers.first()?, *level.numbers.last()?));
+fn write_header_node<K>(rng: &mut Rng, plan: &Plan, built: &mut Built<K>) {
+    let ends = |level: &Level<K>| Some((*level.numbers.first()?, *level.numbers.last()?));
     let (first_leaf, last_leaf) = built.levels.last().and_then(ends).unwrap_or((0, 0));
     let fields = HeaderFields {
         forward: built.map_chain.first().copied().unwrap_or(0),
@@ -126,7 +137,12 @@ fn map_node(rng: &mut Rng, plan: &Plan, next: Option<u32>) -> Vec<u8> {
     node
 }
 
-fn tree_node(mut node: Vec<u8>, built: &Built, level: usize, position: usize) -> Vec<u8> {
+fn tree_node<K: TreeKey>(
+    mut node: Vec<u8>,
+    built: &Built<K>,
+    level: usize,
+    position: usize,
+) -> Vec<u8> {
     let this = &built.levels[level];
     let descriptor = Descriptor {
         forward: this.numbers.get(position + 1).copied().unwrap_or(0),
@@ -137,16 +153,18 @@ fn tree_node(mut node: Vec<u8>, built: &Built, level: usize, position: usize) ->
     match built.levels.get(level + 1) {
         None => write_leaf(built.format, &mut node, descriptor, &built.records[group]),
         Some(below) => {
-            let pointers: Vec<Pointer> = group
-                .map(|child| Pointer { key: below.pointers[child], child: below.numbers[child] })
-                .collect();
+            let pointer = |child: usize| Pointer {
+                key: below.pointers[child].clone(),
+                child: below.numbers[child],
+            };
+            let pointers: Vec<Pointer<K>> = group.map(pointer).collect();
             write_index(built.format, &mut node, descriptor, &pointers);
         }
     }
     node
 }
 
-fn write_map_bits(built: &mut Built) {
+fn write_map_bits<K>(built: &mut Built<K>) {
     let tree = built.levels.iter().flat_map(|level| &level.numbers);
     let used = built.map_chain.iter().chain(tree).chain([&0]);
     for &number in used {

@@ -1,12 +1,12 @@
 //! What free nodes may hold: remains of nodes that were once in use.
 
 use crate::format::Format;
-use crate::key::Key;
-use crate::node::{write_index, write_leaf, write_map, Descriptor, Pointer, Record};
+use crate::node::{fit_in_leaf, write_index, write_leaf, write_map, Descriptor, Pointer, Record};
 use crate::rng::Rng;
+use crate::tree_key::TreeKey;
 
 /// The remains of some node; its records may have keys of the tree, with other data.
-pub fn old_node(rng: &mut Rng, format: Format, records: &[Record]) -> Vec<u8> {
+pub fn old_node<K: TreeKey>(rng: &mut Rng, format: Format, records: &[Record<K>]) -> Vec<u8> {
     let mut node = vec![0; format.node_size];
     match rng.index(6) {
         0 => {}
@@ -19,31 +19,28 @@ pub fn old_node(rng: &mut Rng, format: Format, records: &[Record]) -> Vec<u8> {
     node
 }
 
-fn old_leaf(rng: &mut Rng, format: Format, node: &mut [u8], records: &[Record]) {
-    fill_pads(rng, format, node);
+fn old_leaf<K: TreeKey>(rng: &mut Rng, format: Format, node: &mut [u8], records: &[Record<K>]) {
+    fill_unjudged(rng, format, node);
     let keys = old_keys(rng, format, records, format.most_leaf_records());
-    let old: Vec<Record> = keys
-        .into_iter()
-        .map(|key| {
-            let mut data = vec![0; format.data_size()];
-            rng.fill(&mut data);
-            Record { key, data }
-        })
-        .collect();
+    let mut old: Vec<Record<K>> =
+        keys.into_iter().map(|key| Record { key, data: K::any_data(rng, format) }).collect();
+    while !fit_in_leaf(format, &old) {
+        old.pop();
+    }
     let descriptor = old_descriptor(rng);
     write_leaf(format, node, descriptor, &old);
 }
 
 /// An old leaf with one byte changed, so that it may no longer count for a salvage.
-fn broken_leaf(rng: &mut Rng, format: Format, node: &mut [u8], records: &[Record]) {
+fn broken_leaf<K: TreeKey>(rng: &mut Rng, format: Format, node: &mut [u8], records: &[Record<K>]) {
     old_leaf(rng, format, node, records);
     node[rng.index(format.node_size)] = rng.next_u64() as u8;
 }
 
-fn old_index(rng: &mut Rng, format: Format, node: &mut [u8], records: &[Record]) {
-    fill_pads(rng, format, node);
+fn old_index<K: TreeKey>(rng: &mut Rng, format: Format, node: &mut [u8], records: &[Record<K>]) {
+    fill_unjudged(rng, format, node);
     let keys = old_keys(rng, format, records, format.most_index_records());
-    let old: Vec<Pointer> = keys
+    let old: Vec<Pointer<K>> = keys
         .into_iter()
         .map(|key| {
             let child = rng.next_u64() as u32;
@@ -54,9 +51,9 @@ fn old_index(rng: &mut Rng, format: Format, node: &mut [u8], records: &[Record])
     write_index(format, node, descriptor, &old);
 }
 
-/// Noise for the records to be written over, which leaves the pads of their keys.
-fn fill_pads(rng: &mut Rng, format: Format, node: &mut [u8]) {
-    if format.pad_at().is_some() {
+/// Noise for the records to be written over, which leaves the bytes of keys that no rule judges.
+fn fill_unjudged(rng: &mut Rng, format: Format, node: &mut [u8]) {
+    if format.has_unjudged_key_bytes() {
         rng.fill(node);
     }
 }
@@ -70,24 +67,23 @@ fn old_descriptor(rng: &mut Rng) -> Descriptor {
 }
 
 /// Ascending keys, about half of them from the tree.
-fn old_keys(rng: &mut Rng, format: Format, records: &[Record], most: usize) -> Vec<Key> {
+fn old_keys<K: TreeKey>(
+    rng: &mut Rng,
+    format: Format,
+    records: &[Record<K>],
+    most: usize,
+) -> Vec<K> {
     let count = rng.between(1, most as u64);
-    let mut keys: Vec<Key> = (0..count)
+    let mut keys: Vec<K> = (0..count)
         .map(|_| {
             if records.is_empty() || rng.flip() {
-                any_key(rng, format)
+                K::any(rng, format)
             } else {
-                records[rng.index(records.len())].key
+                records[rng.index(records.len())].key.clone()
             }
         })
         .collect();
     keys.sort_unstable();
     keys.dedup();
     keys
-}
-
-fn any_key(rng: &mut Rng, format: Format) -> Key {
-    // A random part of all ranks, as there may be more of them than 64 bits can number.
-    let part = u128::from(rng.next_u64());
-    format.key_of_rank((part * (format.lawful_keys() >> 32)) >> 32)
 }

@@ -1,6 +1,9 @@
 //! Keys, and a dense numbering of the lawful ones in key order.
 
 use crate::format::Format;
+use crate::node::put_what_fits;
+use crate::rng::Rng;
+use crate::tree_key::TreeKey;
 
 /// A key of an extents record, without its length and pad.
 #[derive(Clone, Copy, Debug, PartialEq, Eq, PartialOrd, Ord)]
@@ -38,6 +41,34 @@ impl Key {
         let f = self.file.to_be_bytes();
         let s = self.start.to_be_bytes();
         [0, 10, self.fork, pad, f[0], f[1], f[2], f[3], s[0], s[1], s[2], s[3]]
+    }
+}
+
+impl TreeKey for Key {
+    fn size_in_leaf(&self, format: Format) -> usize {
+        format.key_size()
+    }
+
+    fn put_in_leaf(&self, format: Format, node: &mut [u8], at: usize) {
+        self.put_in_index(format, node, at);
+    }
+
+    fn put_in_index(&self, format: Format, node: &mut [u8], at: usize) {
+        let pad = format.pad_at().and_then(|pad_at| node.get(at + pad_at));
+        let pad = pad.copied().unwrap_or(0);
+        put_what_fits(node, at, &format.key_bytes(*self, pad));
+    }
+
+    fn any(rng: &mut Rng, format: Format) -> Key {
+        // A random part of all ranks, as there may be more of them than 64 bits can number.
+        let part = u128::from(rng.next_u64());
+        format.key_of_rank((part * (format.lawful_keys() >> 32)) >> 32)
+    }
+
+    fn any_data(rng: &mut Rng, format: Format) -> Vec<u8> {
+        let mut data = vec![0; format.data_size()];
+        rng.fill(&mut data);
+        data
     }
 }
 

@@ -1,5 +1,5 @@
-//! Builds images of extents overflow files, of HFS and HFS Plus: sound ones, the paper's bench images
-//! and spoiled ones.
+//! Builds images of extents overflow files, of HFS and HFS Plus, and of HFS catalog files: sound ones,
+//! the paper's bench images and spoiled ones.
 //!
 //! Nothing here reads an image back; what a reader should say follows from how it was built.
 
@@ -7,6 +7,7 @@ pub mod bench;
 pub mod bench_plus;
 mod build;
 pub mod by_hand;
+pub mod catalog;
 pub mod format;
 mod garbage;
 pub mod key;
@@ -18,10 +19,11 @@ pub mod rng;
 pub mod samples;
 mod shape;
 pub mod spoil;
+mod tree_key;
 mod trees;
 
 pub use build::{build, Built, Level};
-pub use format::{Edition, Format, PLUS_NODE_SIZES};
+pub use format::{Edition, Format, Tree, PLUS_NODE_SIZES};
 pub use key::Key;
 pub use node::{Pointer, Record};
 pub use plan::Plan;

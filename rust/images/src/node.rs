@@ -4,6 +4,7 @@ pub use crate::format::{HEADER_MAP_AT, RECORDS_AT};
 
 use crate::format::Format;
 use crate::key::Key;
+use crate::tree_key::TreeKey;
 
 pub const MOST_NODES: usize = 65_536;
 
@@ -14,15 +15,15 @@ pub const LEAF_KIND: u8 = 0xFF;
 
 /// A leaf record.
 #[derive(Clone, Debug, PartialEq, Eq)]
-pub struct Record {
-    pub key: Key,
+pub struct Record<K = Key> {
+    pub key: K,
     pub data: Vec<u8>,
 }
 
 /// An index record.
 #[derive(Clone, Copy, Debug, PartialEq, Eq)]
-pub struct Pointer {
-    pub key: Key,
+pub struct Pointer<K = Key> {
+    pub key: K,
     pub child: u32,
 }
 
@@ -69,26 +70,58 @@ pub fn write_map(format: Format, node: &mut [u8], forward: u32) {
 }
 
 /// Writes a leaf; more records than fit are written as far as they do, the offsets over the last.
-pub fn write_leaf(format: Format, node: &mut [u8], descriptor: Descriptor, records: &[Record]) {
+pub fn write_leaf<K: TreeKey>(
+    format: Format,
+    node: &mut [u8],
+    descriptor: Descriptor,
+    records: &[Record<K>],
+) {
     write_descriptor(node, descriptor, LEAF_KIND, records.len() as u16);
-    for (index, record) in records.iter().enumerate() {
-        let at = RECORDS_AT + index * format.leaf_record_size();
-        put_key(format, node, at, record.key);
-        put_what_fits(node, at + format.key_size(), &record.data);
+    let starts = leaf_starts(format, records);
+    for (record, &at) in records.iter().zip(&starts) {
+        record.key.put_in_leaf(format, node, at);
+        put_what_fits(node, at + record.key.size_in_leaf(format), &record.data);
     }
-    write_offsets(node, &side_by_side(records.len(), format.leaf_record_size()));
+    write_offsets(node, &starts);
 }
 
 /// Writes an index node; more records than fit are written as far as they do, the offsets over the
 /// last.
-pub fn write_index(format: Format, node: &mut [u8], descriptor: Descriptor, pointers: &[Pointer]) {
+pub fn write_index<K: TreeKey>(
+    format: Format,
+    node: &mut [u8],
+    descriptor: Descriptor,
+    pointers: &[Pointer<K>],
+) {
     write_descriptor(node, descriptor, INDEX_KIND, pointers.len() as u16);
-    for (index, pointer) in pointers.iter().enumerate() {
-        let at = RECORDS_AT + index * format.index_record_size();
-        put_key(format, node, at, pointer.key);
+    let starts = index_starts(format, pointers.len());
+    for (pointer, &at) in pointers.iter().zip(&starts) {
+        pointer.key.put_in_index(format, node, at);
         put_what_fits(node, at + format.key_size(), &pointer.child.to_be_bytes());
     }
-    write_offsets(node, &side_by_side(pointers.len(), format.index_record_size()));
+    write_offsets(node, &starts);
+}
+
+/// Where the records of a leaf start, and after them the free space.
+pub fn leaf_starts<K: TreeKey>(format: Format, records: &[Record<K>]) -> Vec<usize> {
+    let size = |record: &Record<K>| record.key.size_in_leaf(format) + record.data.len();
+    let mut starts = vec![RECORDS_AT];
+    starts.extend(records.iter().scan(RECORDS_AT, |at, record| {
+        *at += size(record);
+        Some(*at)
+    }));
+    starts
+}
+
+/// Where so many records of an index node start, and after them the free space.
+pub fn index_starts(format: Format, count: usize) -> Vec<usize> {
+    (0..=count).map(|record| RECORDS_AT + record * format.index_record_size()).collect()
+}
+
+/// Whether the records of a leaf end before their offset words.
+pub fn fit_in_leaf<K: TreeKey>(format: Format, records: &[Record<K>]) -> bool {
+    let starts = leaf_starts(format, records);
+    starts[records.len()] + 2 * starts.len() <= format.node_size
 }
 
 /// Copies a node to its place in the image.
@@ -115,13 +148,8 @@ pub fn map_byte_at(format: Format, map_chain: &[u32], bit: usize) -> usize {
     number * format.node_size + RECORDS_AT + beyond % format.map_node_bits() / 8
 }
 
-fn put_key(format: Format, node: &mut [u8], at: usize, key: Key) {
-    let pad = format.pad_at().and_then(|pad_at| node.get(at + pad_at));
-    let pad = pad.copied().unwrap_or(0);
-    put_what_fits(node, at, &format.key_bytes(key, pad));
-}
-
-fn put_what_fits(node: &mut [u8], at: usize, bytes: &[u8]) {
+/// Writes bytes as far as the node has room for them.
+pub fn put_what_fits(node: &mut [u8], at: usize, bytes: &[u8]) {
     for (place, byte) in node.iter_mut().skip(at).zip(bytes) {
         *place = *byte;
     }
@@ -134,10 +162,6 @@ fn write_descriptor(node: &mut [u8], descriptor: Descriptor, kind: u8, count: u1
     node[9] = descriptor.level;
     put16(node, 10, count);
     put16(node, 12, 0);
-}
-
-fn side_by_side(count: usize, size: usize) -> Vec<usize> {
-    (0..=count).map(|index| RECORDS_AT + index * size).collect()
 }
 
 fn write_offsets(node: &mut [u8], offsets: &[usize]) {

@@ -5,14 +5,15 @@ use crate::key::Key;
 use crate::node::Record;
 use crate::plan::Plan;
 use crate::rng::Rng;
+use crate::tree_key::TreeKey;
 use std::ops::Range;
 
 /// One level of a tree before it has node numbers.
-pub struct ShapeLevel {
+pub struct ShapeLevel<K> {
     /// Of each node: its children on the level below, or its records if it is a leaf.
     pub groups: Vec<Range<usize>>,
     /// Of each node: its first key, which the pointer record that leads to it has as well.
-    pub pointers: Vec<Key>,
+    pub pointers: Vec<K>,
 }
 
 /// Shares the children out over the parents, at least one to each and at most what fits.
@@ -49,20 +50,21 @@ pub fn make_records(rng: &mut Rng, format: Format, count: usize) -> Vec<Record> 
             let key = format.key_of_rank(rank);
             let gap = gaps[rng.index(gaps.len())].min(widest_gap);
             rank += u128::from(rng.between(1, gap));
-            let mut data = vec![0; format.data_size()];
-            rng.fill(&mut data);
-            Record { key, data }
+            Record { key, data: Key::any_data(rng, format) }
         })
         .collect()
 }
 
 /// The pointer keys over every level, each the first key of its child.
-pub fn add_pointers(groups: Vec<Vec<Range<usize>>>, records: &[Record]) -> Vec<ShapeLevel> {
-    let mut levels: Vec<ShapeLevel> = Vec::new();
+pub fn add_pointers<K: TreeKey>(
+    groups: Vec<Vec<Range<usize>>>,
+    records: &[Record<K>],
+) -> Vec<ShapeLevel<K>> {
+    let mut levels: Vec<ShapeLevel<K>> = Vec::new();
     // The keys on a level are the pointers to the level below, so the leaves come first.
-    let mut keys: Vec<Key> = records.iter().map(|record| record.key).collect();
+    let mut keys: Vec<K> = records.iter().map(|record| record.key.clone()).collect();
     for groups in groups.into_iter().rev() {
-        let pointers: Vec<Key> = groups.iter().map(|group| keys[group.start]).collect();
+        let pointers: Vec<K> = groups.iter().map(|group| keys[group.start].clone()).collect();
         keys.clone_from(&pointers);
         levels.push(ShapeLevel { groups, pointers });
     }
@@ -85,7 +87,7 @@ fn share(rng: &mut Rng, items: usize, parts: usize, most: usize) -> Vec<usize> {
         .collect()
 }
 
-fn consecutive(counts: &[usize]) -> Vec<Range<usize>> {
+pub fn consecutive(counts: &[usize]) -> Vec<Range<usize>> {
     let mut start = 0;
     counts
         .iter()

@@ -3,6 +3,7 @@
 use crate::format::Format;
 use crate::key::Key;
 use crate::node::*;
+use crate::tree_key::TreeKey;
 use std::slice;
 
 /// An image of an empty tree: only a header, the map bit of node 0 and zeros.
@@ -27,7 +28,7 @@ pub fn with_free_1(mut image: Vec<u8>) -> Vec<u8> {
 }
 
 /// A header and one leaf, node 1, with the given records.
-pub fn one_leaf(format: Format, records: &[Record]) -> Vec<u8> {
+pub fn one_leaf<K: TreeKey>(format: Format, records: &[Record<K>]) -> Vec<u8> {
     let fields = HeaderFields {
         depth: 1,
         root: 1,
@@ -47,7 +48,7 @@ pub fn one_leaf(format: Format, records: &[Record]) -> Vec<u8> {
 }
 
 /// A root, node 1, over leaves from node 2 on, each with the records of one group.
-pub fn two_levels(format: Format, groups: &[&[Record]]) -> Vec<u8> {
+pub fn two_levels<K: TreeKey>(format: Format, groups: &[&[Record<K>]]) -> Vec<u8> {
     let total = groups.len() as u32 + 2;
     let fields = HeaderFields {
         depth: 2,
@@ -63,7 +64,7 @@ pub fn two_levels(format: Format, groups: &[&[Record]]) -> Vec<u8> {
     put_bits(&mut image, total);
     let mut pointers = Vec::new();
     for (child, records) in (2..total).zip(groups) {
-        pointers.push(Pointer { key: records[0].key, child });
+        pointers.push(Pointer { key: records[0].key.clone(), child });
         let forward = if child + 1 < total { child + 1 } else { 0 };
         let back = if child > 2 { child - 1 } else { 0 };
         let mut node = vec![0; format.node_size];
@@ -77,8 +78,8 @@ pub fn two_levels(format: Format, groups: &[&[Record]]) -> Vec<u8> {
 }
 
 /// A root over leaves of one record each.
-pub fn one_record_leaves(format: Format, records: &[Record]) -> Vec<u8> {
-    let groups: Vec<&[Record]> = records.iter().map(slice::from_ref).collect();
+pub fn one_record_leaves<K: TreeKey>(format: Format, records: &[Record<K>]) -> Vec<u8> {
+    let groups: Vec<&[Record<K>]> = records.iter().map(slice::from_ref).collect();
     two_levels(format, &groups)
 }
 

@@ -2,8 +2,8 @@
 
 use images::bench::*;
 use images::by_hand::three_levels_by_hand;
-use images::spoil::{spoilings, Spoiling};
-use images::{bench_plus, samples, Built, Format, Key};
+use images::spoil::{spoilings, KeyFaults, Spoiling};
+use images::{bench_plus, catalog, samples, Built, Format, Key};
 use std::collections::BTreeMap;
 
 /// An image with the name of its file and the format it is to be read in.
@@ -29,6 +29,11 @@ pub fn catalogue() -> Vec<Sample> {
     all.extend(plus_bench_samples());
     all.extend(with_spoiled("plus_512_three_level", samples::three_level_plus()));
     all.extend(with_spoiled("plus_4096_two_level", samples::two_level_plus()));
+    all.extend(catalog_bench_samples());
+    all.extend(with_spoiled("catalog_two_level", catalog::samples::two_level()));
+    all.extend(with_spoiled("catalog_three_level", catalog::samples::three_level()));
+    all.push(catalog_sample("largest", catalog::samples::largest().image));
+    all.push(catalog_sample("largest_mixed", catalog::samples::largest_mixed().image));
     all
 }
 
@@ -92,8 +97,35 @@ fn plus_bench_samples() -> Vec<Sample> {
     ]
 }
 
+/// Images of catalogs.
+fn catalog_bench_samples() -> Vec<Sample> {
+    let pointer = |name: &[u8]| {
+        let key = catalog::Key::new(2, name);
+        catalog::bench::two_leaves_with_pointer(&key)
+    };
+    let all = [
+        ("empty", catalog::bench::empty_tree(1)),
+        ("cartridge", catalog::bench::cartridge()),
+        ("cartridge_back_link_1", catalog::bench::cartridge_with_back_link_1()),
+        ("leaf_8_records", catalog::bench::leaf_with(8)),
+        ("leaf_9_records", catalog::bench::leaf_with(9)),
+        ("leaf_up_to_its_offset_words", catalog::bench::full_leaf(7)),
+        ("leaf_into_its_offset_words", catalog::bench::full_leaf(8)),
+        ("index_11_records", catalog::bench::index_with(11)),
+        ("index_12_records", catalog::bench::index_with(12)),
+        ("two_leaves", catalog::bench::two_leaves()),
+        ("two_leaves_pointer_in_other_case", pointer(b"COWS")),
+        ("two_leaves_pointer_prefix_of_first_key", pointer(b"cow")),
+        ("case_twins_under_two_parents", catalog::bench::case_twins([2, 3])),
+        ("case_twins_under_one_parent", catalog::bench::case_twins([2, 2])),
+        ("prefix_below", catalog::bench::two_names([b"ab", b"abc"])),
+        ("prefix_above", catalog::bench::two_names([b"abc", b"ab"])),
+    ];
+    all.into_iter().map(|(name, image)| catalog_sample(name, image)).collect()
+}
+
 /// The sound image, and two spoiled versions for each thing that can be wrong with it.
-fn with_spoiled(name: &str, built: Built) -> Vec<Sample> {
+fn with_spoiled<K: KeyFaults>(name: &str, built: Built<K>) -> Vec<Sample> {
     // The first of a kind lies near the root and the last one in a leaf, so both are kept.
     let mut kinds: BTreeMap<(u32, String), Vec<Spoiling>> = BTreeMap::new();
     for spoiling in spoilings(&built) {
@@ -123,6 +155,11 @@ fn kind_of(what: &str) -> String {
 fn plus_sample(node_size: usize, name: &str, image: Vec<u8>) -> Sample {
     let format = Format::plus(node_size);
     Sample { format, ..sample(&format!("plus_{node_size}_{name}"), image) }
+}
+
+fn catalog_sample(name: &str, image: Vec<u8>) -> Sample {
+    let format = Format::CATALOG;
+    Sample { format, ..sample(&format!("catalog_{name}"), image) }
 }
 
 fn sample(name: &str, image: Vec<u8>) -> Sample {

@@ -3,9 +3,9 @@
 mod catalogue;
 
 use catalogue::{catalogue, Sample};
-use images::Edition;
-use reference::editions::{check, needed_work};
-use reference::{listing, Verdict};
+use images::{Format, Tree};
+use reference::editions::{self, needed_work};
+use reference::{catalog, listing, Verdict};
 use std::path::{Path, PathBuf};
 use std::process::ExitCode;
 use std::{env, fs, io};
@@ -35,16 +35,23 @@ fn write_all(folder: &Path) -> io::Result<usize> {
     let mut verdicts = String::new();
     for Sample { name, format, image } in &samples {
         fs::write(folder.join(format!("{name}.img")), image)?;
-        // The listing program reads HFS only.
-        if format.edition == Edition::Hfs {
+        // The listing program reads extents of HFS only.
+        if *format == Format::HFS {
             fs::write(folder.join(format!("{name}.expected")), listing(image))?;
         }
-        let node_size = format.node_size as u32;
-        let mut work = vec![0; needed_work(node_size, image.len())];
-        let edition = format.edition_number();
-        let Verdict { number, place } = check(edition, node_size, image, &mut work);
+        let Verdict { number, place } = check(*format, image);
         verdicts += &format!("{name} {number} {} {}\n", place.node, place.offset);
     }
     fs::write(folder.join("verdicts.txt"), verdicts)?;
     Ok(samples.len())
+}
+
+/// What the reference says of an image in the format it is to be read in.
+fn check(format: Format, image: &[u8]) -> Verdict {
+    let node_size = format.node_size as u32;
+    let mut work = vec![0; needed_work(node_size, image.len())];
+    match format.tree {
+        Tree::Extents => editions::check(format.edition_number(), node_size, image, &mut work),
+        Tree::Catalog => catalog::check(image, &mut work),
+    }
 }

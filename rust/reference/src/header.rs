@@ -1,6 +1,6 @@
 //! Test 2: what the header node says and whether it may say so.
 
-use crate::edition::Edition;
+use crate::layout::Layout;
 use crate::node::{
     back_link, be16, be32, ends_in, kind, level, record_count, reserved, Node, HEADER_KIND,
     RECORDS_AT,
@@ -43,9 +43,9 @@ impl Header {
     }
 
     /// Whether the fields are possible in an image of `node_count` nodes.
-    pub fn is_possible<E: Edition, const N: usize>(&self, node_count: usize) -> bool {
+    pub fn is_possible<L: Layout, const N: usize>(&self, node_count: usize) -> bool {
         usize::from(self.node_size) == N
-            && self.key_length == E::KEY_LENGTH
+            && self.key_length == L::KEY_LENGTH
             && self.total_nodes as usize == node_count
             && self.depth <= MOST_DEPTH
             && (self.depth > 0 || self.names_no_tree())

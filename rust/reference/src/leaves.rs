@@ -1,13 +1,14 @@
 //! The leaf list: every leaf record in the order of the forward links.
 
-use crate::edition::{Edition, LeafBytes};
 use crate::header::Header;
-use crate::hfs::{key, Hfs, LEAF_DATA_SIZE, NODE_SIZE};
+use crate::hfs::{key, Hfs, LEAF_DATA_SIZE, LEAF_SIZE, NODE_SIZE};
 use crate::key::{Key, KEY_SIZE};
-use crate::node::{forward_link, whole_nodes};
+use crate::layout::Layout;
+use crate::node::{forward_link, whole_nodes, Node};
 use crate::record::Keyed;
+use std::iter;
 
-type Leaf = <Hfs as Edition>::Leaf;
+type Leaf = <Hfs as Layout>::Leaf;
 
 /// One record of the leaf list.
 #[derive(Clone, Copy, Debug, PartialEq, Eq)]
@@ -27,27 +28,26 @@ pub struct LeafRecord {
 pub fn leaf_records(image: &[u8]) -> Vec<LeafRecord> {
     let nodes = whole_nodes::<NODE_SIZE>(image);
     let mut records = Vec::new();
-    let mut next = match nodes.first() {
-        Some(node) => Header::read(node).first_leaf,
-        None => 0,
-    };
-    for _ in 0..nodes.len() {
-        if next == 0 {
-            break;
-        }
-        let Some(node) = nodes.get(next as usize) else {
-            break;
-        };
-        let read = |(record, bytes)| read_record(next, record, bytes);
-        records.extend(Leaf::records(node).iter().enumerate().map(read));
-        next = forward_link(node);
+    for number in leaf_numbers(nodes) {
+        let in_node = Leaf::records(&nodes[number as usize]);
+        records.extend((0..in_node.len()).map(|record| read_record(number, in_node, record)));
     }
     records
 }
 
-fn read_record(node: u32, record: usize, bytes: &LeafBytes<Hfs>) -> LeafRecord {
+/// The leaves in the order of the forward links, up to a link that is out of range, and no more than
+/// there are nodes.
+pub fn leaf_numbers<const N: usize>(nodes: &[Node<N>]) -> impl Iterator<Item = u32> + use<'_, N> {
+    let in_range = |&number: &u32| number != 0 && (number as usize) < nodes.len();
+    let first = nodes.first().map(|node| Header::read(node).first_leaf).filter(in_range);
+    let next = move |&number: &u32| Some(forward_link(&nodes[number as usize])).filter(in_range);
+    iter::successors(first, next).take(nodes.len())
+}
+
+fn read_record(node: u32, records: &[[u8; LEAF_SIZE]], record: usize) -> LeafRecord {
+    let bytes = &records[record];
     let mut data = [0; LEAF_DATA_SIZE];
     data.copy_from_slice(&bytes[KEY_SIZE..]);
-    let start = Leaf::start(record) as u32;
+    let start = Leaf::start(records, record) as u32;
     LeafRecord { node, record: record as u32, start, key: key(bytes), data }
 }

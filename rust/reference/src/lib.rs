@@ -1,8 +1,11 @@
-//! A plain reader of an extents overflow file, of HFS or HFS Plus, held in one byte image.
+//! A plain reader of a file held in one byte image: an extents overflow file, of HFS or HFS Plus, or
+//! an HFS catalog file.
 //!
-//! It answers whether the image is sound, what stands under a key or under each of many, and
-//! what can be salvaged.
+//! It answers whether the image is sound, what stands under a key or under each of many, and what can
+//! be salvaged. The functions here read extents of HFS; [`editions`] has both editions, and
+//! [`catalog`] the catalog.
 
+pub mod catalog;
 mod check;
 mod edition;
 pub mod editions;
@@ -12,6 +15,7 @@ mod hfs;
 mod hfs_calls;
 mod hfs_plus;
 mod key;
+mod layout;
 mod leaves;
 mod listing;
 mod lookup;
@@ -23,6 +27,7 @@ mod place;
 mod position;
 mod record;
 mod salvage;
+mod side_by_side;
 mod tree;
 mod verdict;
 mod work;

@@ -1,13 +1,14 @@
 //! What stands under a key of a sound image.
 
 use crate::check::{open, SoundImage};
-use crate::edition::{Asked, Edition};
+use crate::edition::Edition;
 use crate::halving::halve;
 use crate::key::is_lawful_fork;
+use crate::layout::{Asked, Layout};
 use crate::node::{range_in_image, Node};
 use crate::place::Place;
-use crate::record::{child, leaf_data, Keyed};
-use crate::verdict::{Verdict, ASKED_FORK};
+use crate::record::{child, Keyed};
+use crate::verdict::{Verdict, ASKED_KEY};
 use std::ops::Range;
 
 /// Which of found, absent or refused a lookup came to.
@@ -29,7 +30,7 @@ pub struct Lookup {
     /// Nodes read from the root down; unused places are 0.
     pub path: [u32; 8],
     pub path_len: usize,
-    /// The data bytes of a found record: 12 in HFS, 64 in HFS Plus.
+    /// The data bytes of a found record: 12 in HFS, 64 in HFS Plus, 46 to 102 in a catalog.
     pub data: Option<Range<usize>>,
 }
 
@@ -42,10 +43,19 @@ pub fn lookup<E: Edition, const N: usize>(
     work: &mut [u8],
 ) -> Lookup {
     if !is_lawful_fork(fork) {
-        return refused(Verdict::new(ASKED_FORK, Place::START));
+        return refused(Verdict::new(ASKED_KEY, Place::START));
     }
-    match open::<E, N>(image, work) {
-        Ok(sound) => descend::<E, N>(&sound, E::ask(file, fork, start)),
+    look_up::<E, N>(image, E::ask(file, fork, start), work)
+}
+
+/// Looks a key up that may be asked for, after checking the whole image.
+pub fn look_up<'a, L: Layout, const N: usize>(
+    image: &'a [u8],
+    asked: Asked<L::Key<'a>>,
+    work: &mut [u8],
+) -> Lookup {
+    match open::<L, N>(image, work) {
+        Ok(sound) => descend::<L, N>(&sound, asked),
         Err(fault) => refused(fault),
     }
 }
@@ -59,7 +69,10 @@ fn without_path(answer: Answer) -> Lookup {
     Lookup { answer, compared: 0, path: [0; 8], path_len: 0, data: None }
 }
 
-fn descend<E: Edition, const N: usize>(sound: &SoundImage<N>, asked: Asked<E::Packed>) -> Lookup {
+fn descend<'a, L: Layout, const N: usize>(
+    sound: &SoundImage<'a, N>,
+    asked: Asked<L::Key<'a>>,
+) -> Lookup {
     let mut lookup = without_path(Answer::Absent { node: 0 });
     let mut number = sound.header.root;
     while lookup.path_len < sound.header.depth {
@@ -68,34 +81,34 @@ fn descend<E: Edition, const N: usize>(sound: &SoundImage<N>, asked: Asked<E::Pa
         lookup.path_len += 1;
         lookup.answer = Answer::Absent { node: number };
         if lookup.path_len == sound.header.depth {
-            search_leaf::<E, N>(&mut lookup, number, node, asked);
+            search_leaf::<L, N>(&mut lookup, number, node, asked);
             break;
         }
-        let pointers = E::Index::records(node);
-        let halving = halve::<E::Index>(pointers, asked.nearest);
+        let halving = halve::<L::Index>(L::Index::records(node), asked.nearest);
         lookup.compared += halving.compared;
         match halving.reached {
             None => break,
-            Some(record) => number = child::<E>(&pointers[record]),
+            Some(record) => number = child::<L, N>(node, record),
         }
     }
     lookup
 }
 
-fn search_leaf<E: Edition, const N: usize>(
+fn search_leaf<'a, L: Layout, const N: usize>(
     lookup: &mut Lookup,
     number: u32,
-    node: &Node<N>,
-    asked: Asked<E::Packed>,
+    node: &'a Node<N>,
+    asked: Asked<L::Key<'a>>,
 ) {
-    let records = E::Leaf::records(node);
-    let halving = halve::<E::Leaf>(records, asked.nearest);
+    let records = L::Leaf::records(node);
+    let halving = halve::<L::Leaf>(records, asked.nearest);
     lookup.compared += halving.compared;
     // Halving only knows that the key is not above the asked one.
     let has_key =
-        |&record: &usize| asked.is_exact && E::Leaf::packed_key(&records[record]) == asked.nearest;
+        |&record: &usize| asked.is_exact && L::Leaf::key(records, record) == asked.nearest;
     if let Some(record) = halving.reached.filter(has_key) {
-        lookup.answer = Answer::Found { place: Place::in_node(number, E::Leaf::start(record)) };
-        lookup.data = Some(range_in_image::<N>(number as usize, leaf_data::<E>(record)));
+        lookup.answer =
+            Answer::Found { place: Place::in_node(number, L::Leaf::start(records, record)) };
+        lookup.data = Some(range_in_image::<N>(number as usize, L::Leaf::data(records, record)));
     }
 }

@@ -1,17 +1,17 @@
 //! What stands under each of many keys of a sound image.
 
 use crate::check::{open, SoundImage};
-use crate::edition::Edition;
 use crate::halving::halve;
 use crate::hfs::{Hfs, NODE_SIZE};
 use crate::key::is_lawful_packed;
+use crate::layout::Layout;
 use crate::node::range_in_image;
 use crate::place::Place;
-use crate::record::{child, leaf_data, Keyed};
+use crate::record::{child, Keyed};
 use crate::verdict::{Verdict, RESULT_ROW};
 
-type Leaf = <Hfs as Edition>::Leaf;
-type Index = <Hfs as Edition>::Index;
+type Leaf = <Hfs as Layout>::Leaf;
+type Index = <Hfs as Layout>::Index;
 
 // Both lie in the header node, so no record's data can start there.
 const ABSENT: u32 = 0;
@@ -51,10 +51,11 @@ fn data_start(sound: &SoundImage<NODE_SIZE>, asked: u64) -> Option<usize> {
     let levels_above_leaves = sound.header.depth.checked_sub(1)?;
     let mut number = sound.header.root as usize;
     for _ in 0..levels_above_leaves {
-        let pointers = Index::records(&sound.nodes[number]);
-        let record = halve::<Index>(pointers, asked).reached?;
-        number = child::<Hfs>(&pointers[record]) as usize;
+        let node = &sound.nodes[number];
+        let record = halve::<Index>(Index::records(node), asked).reached?;
+        number = child::<Hfs, NODE_SIZE>(node, record) as usize;
     }
-    let record = Hfs::find(Leaf::records(&sound.nodes[number]), asked)?;
-    Some(range_in_image::<NODE_SIZE>(number, leaf_data::<Hfs>(record)).start)
+    let records = Leaf::records(&sound.nodes[number]);
+    let record = Hfs::find(records, asked)?;
+    Some(range_in_image::<NODE_SIZE>(number, Leaf::data(records, record)).start)
 }

@@ -1,7 +1,7 @@
 //! Tests 3 and 9: the chain of map nodes and the bits it carries.
 
-use crate::edition::Edition;
 use crate::header;
+use crate::layout::Layout;
 use crate::node::{
     back_link, ends_in, forward_link, kind, level, record_count, reserved, Node, MAP_KIND,
     RECORDS_AT,
@@ -13,7 +13,7 @@ use std::iter;
 use std::ops::Range;
 
 /// Test 3: follows the chain from the header and adds its nodes to those met.
-pub fn follow_chain<E: Edition, const N: usize>(
+pub fn follow_chain<L: Layout, const N: usize>(
     nodes: &[Node<N>],
     met: &mut NodeSet,
 ) -> Result<(), Verdict> {
@@ -23,22 +23,22 @@ pub fn follow_chain<E: Edition, const N: usize>(
     while let Some(next) = next_in_chain(nodes, last) {
         let new = (next as usize) < nodes.len() && met.insert(next);
         require(new, MAP_CHAIN, Place::of_node(last))?;
-        require(is_map_node::<E, N>(&nodes[next as usize]), MAP_CHAIN, Place::of_node(next))?;
-        map_bytes += map_record::<E, N>().len();
+        require(is_map_node::<L, N>(&nodes[next as usize]), MAP_CHAIN, Place::of_node(next))?;
+        map_bytes += map_record::<L, N>().len();
         last = next;
     }
     require(8 * map_bytes >= nodes.len(), MAP_CHAIN, Place::of_node(last))
 }
 
 /// Test 9: every bit of a chain that has passed test 3 is set exactly when its node was met.
-pub fn compare_bits<E: Edition, const N: usize>(
+pub fn compare_bits<L: Layout, const N: usize>(
     nodes: &[Node<N>],
     met: &NodeSet,
 ) -> Result<(), Verdict> {
     let first = next_in_chain(nodes, 0);
     let map_nodes = iter::successors(first, |&number| next_in_chain(nodes, number));
     let in_header = (0, header::map_record::<N>());
-    let in_map_nodes = map_nodes.map(|number| (number, map_record::<E, N>()));
+    let in_map_nodes = map_nodes.map(|number| (number, map_record::<L, N>()));
     let mut met = met.bytes();
     for (number, record) in iter::once(in_header).chain(in_map_nodes) {
         let start = record.start;
@@ -68,12 +68,12 @@ fn next_in_chain<const N: usize>(nodes: &[Node<N>], number: u32) -> Option<u32> 
 }
 
 /// Where the record of a map node stands in it.
-fn map_record<E: Edition, const N: usize>() -> Range<usize> {
-    RECORDS_AT..N - E::AFTER_MAP_RECORD
+fn map_record<L: Layout, const N: usize>() -> Range<usize> {
+    RECORDS_AT..N - L::AFTER_MAP_RECORD
 }
 
-fn is_map_node<E: Edition, const N: usize>(node: &Node<N>) -> bool {
-    let starts = [map_record::<E, N>().end, RECORDS_AT];
+fn is_map_node<L: Layout, const N: usize>(node: &Node<N>) -> bool {
+    let starts = [map_record::<L, N>().end, RECORDS_AT];
     back_link(node) == 0
         && kind(node) == MAP_KIND
         && level(node) == 0

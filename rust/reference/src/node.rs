@@ -49,6 +49,11 @@ pub fn reserved<const N: usize>(node: &Node<N>) -> u16 {
     be16(node, 12)
 }
 
+/// Where a record starts, or after the last one the free space, by the words at the node's end.
+pub fn offset_word<const N: usize>(node: &Node<N>, record: usize) -> usize {
+    usize::from(be16(node, N - 2 * (record + 1)))
+}
+
 /// Whether the node ends in these offset words, the first record's last.
 pub fn ends_in<const N: usize, const WORDS: usize>(node: &Node<N>, words: [u16; WORDS]) -> bool {
     let (_, ends) = node.as_rchunks::<2>();

@@ -1,7 +1,7 @@
 //! Tests 4 to 7: the walk over the tree.
 
-use crate::edition::{Edition, PackedKey};
 use crate::header::{Header, ROOT_AT};
+use crate::layout::{Layout, OrderedKey};
 use crate::node::{back_link, forward_link, record_count, Node, BACK_LINK_AT, FORWARD_LINK_AT};
 use crate::node_set::NodeSet;
 use crate::place::Place;
@@ -20,11 +20,11 @@ pub struct LeafTotals {
     pub last: u32,
 }
 
-struct Walk<'a, 'work, E, const N: usize> {
-    edition: PhantomData<E>,
+struct Walk<'a, 'met, 'work, L, const N: usize> {
+    layout: PhantomData<L>,
     nodes: &'a [Node<N>],
     depth: usize,
-    met: &'a mut NodeSet<'work>,
+    met: &'met mut NodeSet<'work>,
     /// The node met last on each level, 0 for none; the levels count from 1.
     last_met: [u32; 9],
     first_leaf: u32,
@@ -32,13 +32,13 @@ struct Walk<'a, 'work, E, const N: usize> {
 }
 
 /// Walks a tree whose header has passed test 2 and adds its nodes to those met.
-pub fn walk<E: Edition, const N: usize>(
+pub fn walk<L: Layout, const N: usize>(
     nodes: &[Node<N>],
     header: &Header,
     met: &mut NodeSet,
 ) -> Result<LeafTotals, Verdict> {
-    let mut walk = Walk::<E, N> {
-        edition: PhantomData,
+    let mut walk = Walk::<L, N> {
+        layout: PhantomData,
         nodes,
         depth: header.depth,
         met,
@@ -49,8 +49,8 @@ pub fn walk<E: Edition, const N: usize>(
     if header.depth > 0 {
         let level = header.depth;
         let named_at = Place::in_node(0, ROOT_AT);
-        let bounds = E::Packed::LOWEST..E::Packed::UNBOUNDED;
-        let root = Position { named_at, level, pointer_key: None, bounds };
+        let bound = OrderedKey::UNBOUNDED;
+        let root = Position { named_at, level, pointer_key: None, bound };
         walk.visit(header.root, &root)?;
         walk.test_level_ends()?;
     }
@@ -61,8 +61,8 @@ pub fn walk<E: Edition, const N: usize>(
     })
 }
 
-impl<E: Edition, const N: usize> Walk<'_, '_, E, N> {
-    fn visit(&mut self, number: u32, position: &Position<E::Packed>) -> Result<(), Verdict> {
+impl<'a, L: Layout, const N: usize> Walk<'a, '_, '_, L, N> {
+    fn visit(&mut self, number: u32, position: &Position<L::Key<'a>>) -> Result<(), Verdict> {
         // Node 0 and the map chain have been met before the tree, so they fall out here too.
         let new = (number as usize) < self.nodes.len() && self.met.insert(number);
         require(new, CHILD, position.named_at)?;
@@ -70,9 +70,9 @@ impl<E: Edition, const N: usize> Walk<'_, '_, E, N> {
         let node = &self.nodes[number as usize];
         let is_leaf = position.level == LEAF_LEVEL;
         if is_leaf {
-            E::Leaf::test(node, number, position)?;
+            L::Leaf::test(node, number, position)?;
         } else {
-            E::Index::test(node, number, position)?;
+            L::Index::test(node, number, position)?;
         }
         self.test_links(number, position.level)?;
 
@@ -88,16 +88,20 @@ impl<E: Edition, const N: usize> Walk<'_, '_, E, N> {
     fn visit_children(
         &mut self,
         parent: u32,
-        position: &Position<E::Packed>,
+        position: &Position<L::Key<'a>>,
     ) -> Result<(), Verdict> {
-        let records = E::Index::records(&self.nodes[parent as usize]);
-        let level = position.level - 1;
-        for (index, record) in records.iter().enumerate() {
-            let low = E::Index::packed_key(record);
-            let high = records.get(index + 1).map_or(position.bounds.end, E::Index::packed_key);
-            let named_at = Place::in_node(parent, child_at::<E>(index));
-            let position = Position { named_at, level, pointer_key: Some(low), bounds: low..high };
-            self.visit(child::<E>(record), &position)?;
+        let node = &self.nodes[parent as usize];
+        let records = L::Index::records(node);
+        let count = L::Index::count(records);
+        for record in 0..count {
+            let next = record + 1;
+            let child_position = Position {
+                named_at: Place::in_node(parent, child_at::<L, N>(node, record)),
+                level: position.level - 1,
+                pointer_key: Some(L::Index::key(records, record)),
+                bound: if next < count { L::Index::key(records, next) } else { position.bound },
+            };
+            self.visit(child::<L, N>(node, record), &child_position)?;
         }
         Ok(())
     }

@@ -32,7 +32,7 @@ returns c =
     let e = l .lookup .ensures in
     let a = l .before .before .before .before .args in (
       c .before .lookup-numbers .ensures ∙ ap lookupNumbers (e .0),
-      (c .found-wide .ensures ∙ ap (λ (r : Lookup). wideBytes (a .image .now) (foundPart (formOf (a .edition) (a .size)) (r .answer))) (e .0), rw (e .0) at (e .1 .1)),
+      (c .found-wide .ensures ∙ ap (λ (r : Lookup). wideBytes (a .image .now) (foundPart (formOf (a .edition) (a .size)) (a .image .now) (r .answer))) (e .0), rw (e .0) at (e .1 .1)),
     )
 
 pub hfs-extents-lookup-spec : {M : Type 1} → statement M

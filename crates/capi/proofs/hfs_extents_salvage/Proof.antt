@@ -28,7 +28,7 @@ returns c =
     let l = c .before .before in
     let a = l .before .before .args in (
       c .before .salvage-reply .ensures ∙ ap (λ (r : Salvage). replyNumbers (salvageReply r)) (l .salvage .ensures .0),
-      c .seen-wide .ensures ∙ ap (λ (r : Salvage). wideBytes (a .image .now) (seenPart (formOf (a .edition) (a .size)) r)) (l .salvage .ensures .0),
+      c .seen-wide .ensures ∙ ap (λ (r : Salvage). wideBytes (a .image .now) (seenPart (formOf (a .edition) (a .size)) (a .image .now) r)) (l .salvage .ensures .0),
     )
 
 pub hfs-extents-salvage-spec : {M : Type 1} → statement M

@@ -26,7 +26,7 @@ returns c =
     let e = l .lookup .ensures in
     let img = l .before .before .before .before .args .image .now in (
       c .before .lookup-numbers .ensures ∙ ap lookupNumbers (e .0),
-      (c .found-data .ensures ∙ ap (λ (r : Lookup). dataBytes img (foundPart (r .answer))) (e .0), rw (e .0) at (e .1 .1)),
+      (c .found-data .ensures ∙ ap (λ (r : Lookup). dataBytes img (foundPart img (r .answer))) (e .0), rw (e .0) at (e .1 .1)),
     )
 
 pub hfs-lookup-spec : {M : Type 1} → statement M

@@ -22,7 +22,7 @@ returns c =
     let l = c .before .before in
     let img = l .before .before .args .image .now in (
       c .before .salvage-reply .ensures ∙ ap (λ (r : Salvage). replyNumbers (salvageReply r)) (l .salvage .ensures .0),
-      c .seen-data .ensures ∙ ap (λ (r : Salvage). dataBytes img (seenPart r)) (l .salvage .ensures .0),
+      c .seen-data .ensures ∙ ap (λ (r : Salvage). dataBytes img (seenPart img r)) (l .salvage .ensures .0),
     )
 
 pub hfs-salvage-spec : {M : Type 1} → statement M

@@ -1,6 +1,6 @@
 -- `lookup_part` meets its contract. Assumes nothing.
 use lib.ListN.{length}
-use Rattle.formats.specs.Key.{asked}
+use Rattle.extent_keys.specs.Key.{asked}
 use Rattle.frame.specs.Form.{hfs}
 use Rattle.frame.proofs.Forms.{hfs-listed}
 use Rattle.editions.proofs.Editions.{lookup-listed}

@@ -1,8 +1,7 @@
 -- `row_fields` meets its contract. Assumes nothing.
-use Rattle.frame.specs.Form.{hfs}
+use Rattle.frame.specs.Form.{hfs, keySize}
 use Rattle.frame.proofs.Forms.{hfs-listed, fair}
-use Rattle.formats.specs.Key.{keyAt}
-use Rattle.formats.specs.Format.{keySize}
+use Rattle.extent_keys.specs.Key.{keyAt}
 use Rattle.listing.specs.Rows.{fieldsOf}
 use borrow.Author.Needs.{needs}
 use Rattle.listing.proofs.row_fields.Statement.{statement}

@@ -1,37 +1,29 @@
 -- `lookup_part` meets its contract. Assumes nothing.
-use native.Mathlib.Omega.{arith}
 use lib.ListN.{length}
 use mathlib.Core.Path.{_≡_, sym, ap, _∙_}
 use Rattle.btree.specs.declared.Lookup.{Lookup}
 use Rattle.btree.specs.declared.Answer.{Answer}
-use Rattle.formats.specs.Key.{asked}
 use Rattle.btree.specs.Numbers.{lookupReply}
-use Rattle.reader.specs.Reader.{Leaves, lookedUp}
-use Rattle.formats.specs.declared.key.Key.{Key}
-use Rattle.formats.proofs.Order.{InRange, Bytes}
+use Rattle.formats.specs.Asked.{askedRank}
+use Rattle.reader.specs.Reader.{Leaves, lookedUpBy}
 use Rattle.reader.proofs.Demands.{found-inside}
 use borrow.Author.Needs.{needs}
 use Rattle.reader.proofs.lookup_part.Statement.{statement}
 use Rattle.reader.proofs.lookup_part.Tie as tie
 
-bytes : (c : tie.After-shared-slice-known) → Bytes (c .before .args .image .now)
-bytes c i = omega (arith, c .shared-slice-known .given i)
+abbrev start : tie.After-lookup → tie.Start
+start c = c .before .before .before .before .before
 
-abbrev key : tie.Start → Key
-key c = asked (c .args .file) (c .args .fork) (c .args .start)
-
-key-inRange : (c : tie.Start) → InRange (key c)
-key-inRange c = record { fork = omega arith; start = omega arith }
+abbrev looked : tie.Start → Lookup
+looked s = lookedUpBy (s .args .form) (s .args .image .now) (s .args .lawful) (askedRank (s .args .form) (s .args .key) (s .args .name .now)) (length (s .args .work .now))
 
 -- what the lookup answers, as the definition has it
-answers : (c : tie.After-lookup) (a : Answer) → c .lookup .result .answer ≡ a → let s = c .before .before .before .before in
-    lookedUp (s .args .form) (s .args .image .now) (key s) (length (s .args .work .now)) .answer ≡ a
+answers : (c : tie.After-lookup) (a : Answer) → c .lookup .result .answer ≡ a → looked (start c) .answer ≡ a
 answers c a e = sym (ap (λ (l : Lookup). l .answer) (c .lookup .ensures .0)) ∙ e
 
 -- and what it leaves
-leaves : (c : tie.After-lookup) → let s = c .before .before .before .before in
-    Leaves (s .args .form) (s .args .image .now) (lookupReply (lookedUp (s .args .form) (s .args .image .now) (key s) (length (s .args .work .now)) .answer) .number) (s .args .work .now) (c .lookup .last .1 .1 .1 .1 .1 .0)
-leaves c = rw (c .lookup .ensures .0) at (c .lookup .ensures .1 .1)
+leaves : (c : tie.After-lookup) → let s = start c in Leaves (s .args .form) (s .args .image .now) (lookupReply (looked s .answer) .number) (s .args .work .now) (c .lookup .last .1 .1 .1 .1 .1 .0)
+leaves c = rw (c .lookup .ensures .0) at (c .lookup .ensures .1)
 
 lookup-requires : tie.Need-lookup-requires
 lookup-requires c κs = search needs
@@ -43,8 +35,8 @@ data-of-requires : tie.Need-data-of-requires
 data-of-requires c κs =
     let r = c .before in
     let l = r .before .before .before .before in
-    let s = l .before .before .before .before in
-    (s .pre, found-inside (s .args .form) (s .pre) (s .args .image .now) (bytes (l .before .before .before)) (key s) (key-inRange s) _ _ (answers l _ (r .answer .given .1)))
+    let s = start l in
+    (s .pre, found-inside (s .args .form) (s .pre) (s .args .image .now) _ _ _ (s .args .lawful) (answers l _ (r .answer .given .1)))
 
 enum-told : tie.Need-enum-told
 enum-told c = search needs

@@ -1,37 +1,23 @@
 -- `found_wide` meets its contract. Assumes nothing.
+use mathlib.Core.Path.{ap, _∙_}
+use native.Mathlib.Omega.{arith}
+use Rattle.btree.specs.Lists.{padded}
+use Rattle.reader.specs.Reader.{foundPart}
+use Rattle.replies.proofs.Data.{fewer}
 use borrow.Author.Needs.{needs}
 use Rattle.replies.proofs.found_wide.Statement.{statement}
 use Rattle.replies.proofs.found_wide.Tie as tie
 
-enum-known-answer : tie.Need-enum-known-answer
-enum-known-answer c = search needs
+found-bytes-requires : tie.Need-found-bytes-requires
+found-bytes-requires c κs = search needs
 
-record-wide-requires : tie.Need-record-wide-requires
-record-wide-requires c κs = c .before .before .before .before .pre _ (c .before .answer .given .1)
-
-enum-told : tie.Need-enum-told
-enum-told c = search needs
-
-enum-told-2 : tie.Need-enum-told-2
-enum-told-2 c = search needs
+wide-requires : tie.Need-wide-requires
+wide-requires c κs = search needs
 
 returns : tie.Need-returns
-returns c = rw (c .before .before .answer .given .1) (c .record-wide .ensures)
-
-returns-2 : tie.Need-returns-2
-returns-2 c = search needs
-
-returns-3 : tie.Need-returns-3
-returns-3 c = search needs
+returns c =
+    let a = c .before .before .before .args in
+    c .wide .ensures ∙ ap (padded 64) (c .before .found-bytes .ensures) ∙ fewer 64 (omega arith) (a .image .now) (foundPart (a .form) (a .image .now) (a .answer))
 
 pub found-wide-spec : {M : Type 1} → statement M
-found-wide-spec =
-    tie.close
-    (tie.spec
-    enum-known-answer
-    record-wide-requires
-    enum-told
-    enum-told-2
-    returns
-    returns-2
-    returns-3)
+found-wide-spec = tie.close (tie.spec found-bytes-requires wide-requires returns)

@@ -1,37 +1,23 @@
 -- `seen_wide` meets its contract. Assumes nothing.
+use mathlib.Core.Path.{ap, _∙_}
+use native.Mathlib.Omega.{arith}
+use Rattle.btree.specs.Lists.{padded}
+use Rattle.reader.specs.Reader.{seenPart}
+use Rattle.replies.proofs.Data.{fewer}
 use borrow.Author.Needs.{needs}
 use Rattle.replies.proofs.seen_wide.Statement.{statement}
 use Rattle.replies.proofs.seen_wide.Tie as tie
 
-enum-known-seen : tie.Need-enum-known-seen
-enum-known-seen c = search needs
+seen-bytes-requires : tie.Need-seen-bytes-requires
+seen-bytes-requires c κs = search needs
 
-record-wide-requires : tie.Need-record-wide-requires
-record-wide-requires c κs = c .before .before .before .before .pre _ (c .before .seen .given .1)
-
-enum-told : tie.Need-enum-told
-enum-told c = search needs
-
-enum-told-2 : tie.Need-enum-told-2
-enum-told-2 c = search needs
+wide-requires : tie.Need-wide-requires
+wide-requires c κs = search needs
 
 returns : tie.Need-returns
-returns c = rw (c .before .before .seen .given .1) (c .record-wide .ensures)
-
-returns-2 : tie.Need-returns-2
-returns-2 c = search needs
-
-returns-3 : tie.Need-returns-3
-returns-3 c = search needs
+returns c =
+    let a = c .before .before .before .args in
+    c .wide .ensures ∙ ap (padded 64) (c .before .seen-bytes .ensures) ∙ fewer 64 (omega arith) (a .image .now) (seenPart (a .form) (a .image .now) (a .seen))
 
 pub seen-wide-spec : {M : Type 1} → statement M
-seen-wide-spec =
-    tie.close
-    (tie.spec
-    enum-known-seen
-    record-wide-requires
-    enum-told
-    enum-told-2
-    returns
-    returns-2
-    returns-3)
+seen-wide-spec = tie.close (tie.spec seen-bytes-requires wide-requires returns)

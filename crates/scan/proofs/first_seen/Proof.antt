@@ -8,7 +8,7 @@ use Rattle.btree.specs.declared.Salvage.the-variants.{Seen}
 use Rattle.btree.specs.Header.{viewOf}
 use Rattle.btree.proofs.Hits.{hit-at, hit-nowhere}
 use Rattle.frame.proofs.Forms.{nodes-few, whole-node}
-use Rattle.formats.specs.Key.{rankOf}
+use Rattle.formats.specs.Asked.{askedRank}
 use Rattle.scan.specs.Seen.{seenIn, seenFrom}
 use Rattle.scan.proofs.Looking.{seen-end, seen-here, seen-on}
 use Rattle.scan.proofs.Matches.{seen-some}
@@ -17,18 +17,18 @@ use Rattle.scan.proofs.first_seen.Statement.{statement}
 use Rattle.scan.proofs.first_seen.Tie as tie
 
 abbrev Inv-loop : tie.InvT-loop
-Inv-loop form image key total node₀ node =
-    (total ≤ 65536) × (1 ≤ node) × (seenFrom form image (rankOf key) 1 (length image / form .size - 1) ≡ seenFrom form image (rankOf key) node (total - node))
+Inv-loop form image key name total node₀ node =
+    (total ≤ 65536) × (1 ≤ node) × (seenFrom form image (askedRank form key name) 1 (length image / form .size - 1) ≡ seenFrom form image (askedRank form key name) node (total - node))
 
 abbrev μ-loop : tie.MeasureT-loop
-μ-loop form image key total node₀ node = total - node
+μ-loop form image key name total node₀ node = total - node
 
 few : (c : tie.After-nodes-of Inv-loop μ-loop) → c .nodes-of .result ≤ 65536
-few c = let s = c .before .before in rw (c .nodes-of .ensures) (nodes-few (s .args .form) (length (s .args .image .now)) (s .pre .1))
+few c = let s = c .before .before .before in rw (c .nodes-of .ensures) (nodes-few (s .args .form) (length (s .args .image .now)) (s .pre .1))
 
 -- the record that the node has
-seen : (c : tie.After-i Inv-loop μ-loop) → let s = c .before .before in let a = s .before .before .before .before .before .args in
-    seenIn (a .form) (a .image .now) (rankOf (a .key)) (s .before .before .loop .node) ≡ some (c .i .given .0 .0)
+seen : (c : tie.After-i Inv-loop μ-loop) → let s = c .before .before in let a = s .before .before .before .before .before .before .args in
+    seenIn (a .form) (a .image .now) (askedRank (a .form) (a .key) (a .name .now)) (s .before .before .loop .node) ≡ some (c .i .given .0 .0)
 seen c = hit-at _ _ (sym (c .before .before .seen-in .ensures) ∙ c .i .given .1)
 
 nodes-of-requires : tie.Need-nodes-of-requires Inv-loop μ-loop
@@ -43,7 +43,7 @@ loop-holds c = (few c, search needs, rw (c .nodes-of .ensures))
 seen-in-requires : tie.Need-seen-in-requires Inv-loop μ-loop
 seen-in-requires c κs =
     let n = c .before .before in
-    let s = n .before .before in
+    let s = n .before .before .before in
     let e = n .nodes-of .ensures in
     let t = c .loop-test .taken in
     record { fair = s .pre .0; inside = whole-node (s .args .form) (length (s .args .image .now)) (c .before .loop .node) (omega arith) }
@@ -55,7 +55,7 @@ record-place-requires : tie.Need-record-place-requires Inv-loop μ-loop
 unfolding viewOf
 record-place-requires c κs =
     let s = c .before .before .before in
-    (s .before .before .before .before .before .pre .0, seen-some _ _ _ _ _ (seen (c .before)) .0 .inside)
+    (s .before .before .before .before .before .before .pre .0, seen-some _ _ _ _ _ (seen (c .before)) .0 .inside)
 
 returns : tie.Need-returns Inv-loop μ-loop
 returns c =

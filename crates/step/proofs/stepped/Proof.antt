@@ -6,7 +6,7 @@ use mathlib.Core.Path.{_≡_, sym, ap, _∙_}
 use lib.ListN.{length}
 use Rattle.frame.proofs.Forms.{node-inside}
 use Rattle.formats.specs.Format.{view}
-use Rattle.nodes.specs.Inside.{NodeIn}
+use Rattle.frame.specs.Inside.{NodeIn}
 use Rattle.step.specs.State.{state, freshIn, lastAt, entry}
 use Rattle.btree.proofs.Clean.{test-zero}
 use Rattle.btree.specs.Walk.{test}

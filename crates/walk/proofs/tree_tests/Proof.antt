@@ -1,8 +1,8 @@
 -- `tree_tests` meets its contract. Assumes nothing.
 use Rattle.step.specs.declared.state.Walk.{Walk}
+use Prim.Native.Nat.{_-_}
 use lib.ListN.{replicate}
 use native.Mathlib.Omega.{arith}
-use Prim.Native.Nat.{_-_}
 use mathlib.Core.List.{[]}
 use mathlib.Core.Option.{none}
 use mathlib.Core.Path.{_≡_, refl, sym, _∙_}

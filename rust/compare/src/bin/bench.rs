@@ -1,9 +1,9 @@
 //! Times the proved reader and the reference on sound images of 1 to 65,536 nodes, under many keys at
-//! once, in one full leaf, and on HFS Plus; nothing is asserted.
+//! once, in one full leaf, on HFS Plus, and on catalogs; nothing is asserted.
 
 use compare::packed;
 use hfs_btree::editions as proved;
-use images::{bench, samples, Built, Format, Key, Rng};
+use images::{bench, catalog, samples, Built, Format, Key, Rng};
 use reference::editions as plain;
 use std::hint::black_box;
 use std::time::Instant;
@@ -44,6 +44,12 @@ fn main() {
     one_leaf();
     println!("HFS Plus, nodes of 4,096 bytes in a random order");
     largest_of_plus(&samples::largest_plus(PLUS_NODES));
+    println!("catalog of threads, eight in a leaf, nodes in a random order");
+    largest_catalog(&catalog::samples::largest());
+    println!("catalog of threads, eight in a leaf, nodes in the order of their levels");
+    largest_catalog(&catalog::samples::largest_in_order());
+    println!("catalog of all types, nodes in a random order");
+    largest_catalog(&catalog::samples::largest_mixed());
 }
 
 fn largest(built: &Built) {
@@ -98,6 +104,34 @@ fn largest_of_plus(built: &Built) {
         "salvage",
         || proved::salvage(edition, node_size, image(), file, fork, start),
         || plain::salvage(edition, node_size, image(), file, fork, start),
+    );
+}
+
+/// The same of a catalog.
+fn largest_catalog(built: &catalog::Built) {
+    let (nodes, records) = (built.total(), built.records.len());
+    println!("{nodes} nodes, {records} records, median of {RUNS}");
+    let image = || black_box(built.image.as_slice());
+    let [mut ours, mut theirs] = lent(&built.image);
+    report(
+        "check",
+        || hfs_btree::catalog::check(image(), &mut ours),
+        || reference::catalog::check(image(), &mut theirs),
+    );
+
+    let catalog::Key { parent, name } = &built.records[records / 2].key;
+    report(
+        "lookup",
+        || hfs_btree::catalog::lookup(image(), *parent, name, &mut ours),
+        || reference::catalog::lookup(image(), *parent, name, &mut theirs),
+    );
+
+    // No record has the highest key, so that salvage reads every node.
+    let name = [0xFF; catalog::MOST_NAME];
+    report(
+        "salvage",
+        || hfs_btree::catalog::salvage(image(), u32::MAX, &name),
+        || reference::catalog::salvage(image(), u32::MAX, &name),
     );
 }
 

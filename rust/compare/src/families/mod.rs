@@ -14,6 +14,8 @@ mod spoiled;
 use crate::comparison::Comparison;
 use images::Format;
 
+pub use spoiled::change_a_field;
+
 /// A kind of images, with what makes and compares them in a format from a seed.
 pub struct Family {
     pub name: &'static str,

@@ -5,7 +5,7 @@ use crate::build::Built;
 use crate::node::map_byte_at;
 use std::ops::Range;
 
-pub fn spoilings(built: &Built) -> Vec<Spoiling> {
+pub fn spoilings<K>(built: &Built<K>) -> Vec<Spoiling> {
     let single = single_bits(built).into_iter().map(|bit| {
         let what = format!("bit_{bit}_flipped");
         flipped(built, what, &[bit])
@@ -18,7 +18,7 @@ pub fn spoilings(built: &Built) -> Vec<Spoiling> {
 }
 
 /// The bits of every node and, beyond them, the next one and the ends of the map records.
-fn single_bits(built: &Built) -> Vec<usize> {
+fn single_bits<K>(built: &Built<K>) -> Vec<usize> {
     let total = built.total() as usize;
     let records = map_records(built);
     let carried = records[records.len() - 1].end;
@@ -31,7 +31,7 @@ fn single_bits(built: &Built) -> Vec<usize> {
 }
 
 /// Two bits in bytes far apart, lower first: of the two, the table asks for the lower one.
-fn two_bits(built: &Built) -> Vec<[usize; 2]> {
+fn two_bits<K>(built: &Built<K>) -> Vec<[usize; 2]> {
     let records = map_records(built);
     let very_last = records[records.len() - 1].end - 1;
     let across = records.iter().map(|bits| [bits.start, very_last]);
@@ -40,7 +40,7 @@ fn two_bits(built: &Built) -> Vec<[usize; 2]> {
 }
 
 /// The bits of every map record, the header's first, numbered along the chain.
-fn map_records(built: &Built) -> Vec<Range<usize>> {
+fn map_records<K>(built: &Built<K>) -> Vec<Range<usize>> {
     let (in_header, in_map_node) = (built.format.header_bits(), built.format.map_node_bits());
     let ends = (0..=built.map_chain.len()).map(|nodes| in_header + nodes * in_map_node);
     let starts = [0].into_iter().chain(ends.clone());
@@ -48,7 +48,7 @@ fn map_records(built: &Built) -> Vec<Range<usize>> {
 }
 
 /// Flips bits of different bytes, the lowest first.
-fn flipped(built: &Built, what: String, bits: &[usize]) -> Spoiling {
+fn flipped<K>(built: &Built<K>, what: String, bits: &[usize]) -> Spoiling {
     let byte_at = |bit| map_byte_at(built.format, &built.map_chain, bit);
     let flip = |&bit: &usize| {
         let at = byte_at(bit);

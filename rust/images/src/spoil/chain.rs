@@ -4,7 +4,7 @@ use super::{Moment, Patch, Place, Spoiling, Stage, Step};
 use crate::build::Built;
 use crate::format::Format;
 
-pub fn spoilings(built: &Built) -> Vec<Spoiling> {
+pub fn spoilings<K>(built: &Built<K>) -> Vec<Spoiling> {
     let mut found = Vec::from_iter(header_to_tree(built));
     // Turn n of the chain is the link of its n-th node, the header being node 0 of the chain.
     found.extend(links(built, 0, 0));
@@ -18,7 +18,7 @@ pub fn spoilings(built: &Built) -> Vec<Spoiling> {
 }
 
 /// The linked node is at fault if it is no map node.
-fn header_to_tree(built: &Built) -> Option<Spoiling> {
+fn header_to_tree<K>(built: &Built<K>) -> Option<Spoiling> {
     let root = built.levels.first()?.numbers[0];
     let moment = Moment::at(Stage::Chain, 0, Step::Link);
     let patch = Patch::long(0, root);
@@ -26,7 +26,7 @@ fn header_to_tree(built: &Built) -> Option<Spoiling> {
 }
 
 /// A node with a link out of range, or with none where more bits are needed, is itself at fault.
-fn links(built: &Built, number: u32, turn: u32) -> Vec<Spoiling> {
+fn links<K>(built: &Built<K>, number: u32, turn: u32) -> Vec<Spoiling> {
     let at = number as usize * built.format.node_size;
     let moment = Moment::at(Stage::Chain, turn, Step::Link);
     let total = built.total();
@@ -42,7 +42,7 @@ fn links(built: &Built, number: u32, turn: u32) -> Vec<Spoiling> {
 }
 
 /// A link to a node already in the chain is the fault of the node that has it.
-fn ring(built: &Built, number: u32, turn: u32) -> Spoiling {
+fn ring<K>(built: &Built<K>, number: u32, turn: u32) -> Spoiling {
     let at = number as usize * built.format.node_size;
     let moment = Moment::at(Stage::Chain, turn, Step::Link);
     let first = built.map_chain[0];

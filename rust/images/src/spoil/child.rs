@@ -3,9 +3,9 @@
 use super::family::{visit_order, Member};
 use super::{Moment, Patch, Place, Spoiling, Stage, Step};
 use crate::build::Built;
-use crate::node::RECORDS_AT;
+use crate::node::index_starts;
 
-pub fn spoilings(built: &Built) -> Vec<Spoiling> {
+pub fn spoilings<K>(built: &Built<K>) -> Vec<Spoiling> {
     let order = visit_order(built);
     let mut found = Vec::new();
     for (visit, &member) in order.iter().enumerate() {
@@ -18,7 +18,7 @@ pub fn spoilings(built: &Built) -> Vec<Spoiling> {
 }
 
 /// Numbers that cannot stand where the number of this node stands.
-fn wrong_numbers(built: &Built, member: Member) -> Vec<(String, u32)> {
+fn wrong_numbers<K>(built: &Built<K>, member: Member) -> Vec<(String, u32)> {
     let mut wrong = vec![("0", 0), ("total", built.total()), ("far_out", u32::MAX)];
     if let Some((parent, _)) = member.parent(built) {
         wrong.push(("parent", parent.number(built)));
@@ -31,12 +31,18 @@ fn wrong_numbers(built: &Built, member: Member) -> Vec<(String, u32)> {
     wrong.into_iter().map(|(what, number)| (what.to_string(), number)).chain(map_nodes).collect()
 }
 
-fn spoiling(built: &Built, member: Member, moment: Moment, what: &str, value: u32) -> Spoiling {
+fn spoiling<K>(
+    built: &Built<K>,
+    member: Member,
+    moment: Moment,
+    what: &str,
+    value: u32,
+) -> Spoiling {
     let (what, at) = match member.parent(built) {
         None => (format!("root_is_{what}"), 16),
         Some((parent, record)) => {
-            let before = record * built.format.index_record_size() + built.format.key_size();
-            let at = parent.at(built) + RECORDS_AT + before;
+            let start = index_starts(built.format, record)[record];
+            let at = parent.at(built) + start + built.format.key_size();
             (format!("child_{record}_is_{what}"), at)
         }
     };

@@ -4,16 +4,18 @@ use super::{Moment, Patch, Place, Spoiling, Stage};
 use crate::build::Built;
 use crate::format::{Format, PLUS_NODE_SIZES};
 
-pub fn spoilings(built: &Built) -> Vec<Spoiling> {
+pub fn spoilings<K>(built: &Built<K>) -> Vec<Spoiling> {
     let mut found = start_faults();
     found.extend(wrong_node_sizes(built.format).into_iter().map(|size| {
         let what = format!("header_node_size_{size}");
         spoiling(&what, Patch::word(32, size))
     }));
-    found.extend(built.format.by_edition([6, 37], [7, 11]).map(|length| {
-        let what = format!("header_key_length_{length}");
-        spoiling(&what, Patch::word(34, length))
-    }));
+    found.extend(built.format.by_tree(built.format.by_edition([6, 37], [7, 11]), [7, 36]).map(
+        |length| {
+            let what = format!("header_key_length_{length}");
+            spoiling(&what, Patch::word(34, length))
+        },
+    ));
     let total = built.total();
     found.push(spoiling("header_total_one_over", Patch::long(36, total + 1)));
     found.push(spoiling("header_total_one_short", Patch::long(36, total - 1)));

@@ -4,7 +4,7 @@ use super::{Moment, Patch, Place, Spoiling, Stage};
 use crate::build::Built;
 use crate::node::MOST_NODES;
 
-pub fn spoilings(built: &Built) -> Vec<Spoiling> {
+pub fn spoilings<K>(built: &Built<K>) -> Vec<Spoiling> {
     let (len, node_size) = (built.image.len(), built.format.node_size);
     let mut found = vec![
         resized("length_0".to_string(), 0),

@@ -7,7 +7,7 @@ use crate::build::Built;
 const FORWARD: usize = 0;
 const BACK: usize = 4;
 
-pub fn spoilings(built: &Built) -> Vec<Spoiling> {
+pub fn spoilings<K>(built: &Built<K>) -> Vec<Spoiling> {
     let order = visit_order(built);
     let mut found = Vec::new();
     for (visit, &member) in order.iter().enumerate() {
@@ -37,7 +37,7 @@ pub fn spoilings(built: &Built) -> Vec<Spoiling> {
 }
 
 /// A forward link is looked at from the next node on the level, or after the walk if it is the last.
-fn forward_moment(built: &Built, order: &[Member], member: Member) -> Moment {
+fn forward_moment<K>(built: &Built<K>, order: &[Member], member: Member) -> Moment {
     match member.after(built) {
         None => Moment::at(Stage::LevelEnds, member.level as u32, Step::Whole),
         Some(after) => {
@@ -48,7 +48,11 @@ fn forward_moment(built: &Built, order: &[Member], member: Member) -> Moment {
     }
 }
 
-fn wrong_links(built: &Built, member: Member, right: Option<u32>) -> Vec<(&'static str, u32)> {
+fn wrong_links<K>(
+    built: &Built<K>,
+    member: Member,
+    right: Option<u32>,
+) -> Vec<(&'static str, u32)> {
     let mut wrong = vec![("to_itself", member.number(built)), ("far_out", u32::MAX)];
     if right.is_some() {
         wrong.push(("0", 0));
@@ -57,7 +61,7 @@ fn wrong_links(built: &Built, member: Member, right: Option<u32>) -> Vec<(&'stat
 }
 
 /// Two wrong links, of which the node's back link is looked at first.
-fn with_wrong_back_link(built: &Built, member: Member) -> Vec<(&'static str, Vec<Patch>)> {
+fn with_wrong_back_link<K>(built: &Built<K>, member: Member) -> Vec<(&'static str, Vec<Patch>)> {
     let at = member.at(built);
     let own = vec![Patch::long(at + BACK, u32::MAX), Patch::long(at + FORWARD, u32::MAX)];
     let mut found = vec![("both_links_far_out", own)];
@@ -69,8 +73,8 @@ fn with_wrong_back_link(built: &Built, member: Member) -> Vec<(&'static str, Vec
     found
 }
 
-fn spoiling(
-    built: &Built,
+fn spoiling<K>(
+    built: &Built<K>,
     what: String,
     link_at: usize,
     moment: Moment,

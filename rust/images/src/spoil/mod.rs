@@ -1,12 +1,15 @@
 //! Spoilings: faults put into a sound image, most of them single, with what the table says of each.
 
 mod bits;
+mod catalog;
 mod chain;
 mod child;
+mod extents;
 mod family;
 mod form;
 mod harmless;
 mod header;
+mod keys;
 mod length;
 mod links;
 mod order;
@@ -14,7 +17,9 @@ mod place;
 mod totals;
 
 use crate::build::Built;
+use crate::format::Format;
 pub use harmless::harmless;
+pub use keys::KeyFaults;
 pub use place::Place;
 
 /// Changes to a sound image and the fault that the table answers them with.
@@ -126,6 +131,14 @@ impl Patch {
         Patch::Write { at, bytes }
     }
 
+    /// The node whose bytes it changes first.
+    fn node(&self, format: Format) -> u32 {
+        match self {
+            Patch::Write { at, .. } => Place::of_byte(format, *at).node,
+            Patch::Resize(_) => 0,
+        }
+    }
+
     fn overlaps(&self, other: &Patch) -> bool {
         match (self, other) {
             (Patch::Write { at: a, bytes: x }, Patch::Write { at: b, bytes: y }) => {
@@ -147,19 +160,19 @@ fn resize(image: &mut Vec<u8>, len: usize) {
 }
 
 /// Every spoiling known for the image, in the order of the table.
-pub fn spoilings(built: &Built) -> Vec<Spoiling> {
+pub fn spoilings<K: KeyFaults>(built: &Built<K>) -> Vec<Spoiling> {
     (1..=10).flat_map(|number| by_number(built, number)).collect()
 }
 
 /// The spoilings that the table answers with one number.
-pub fn by_number(built: &Built, number: u32) -> Vec<Spoiling> {
+pub fn by_number<K: KeyFaults>(built: &Built<K>, number: u32) -> Vec<Spoiling> {
     match number {
         1 => length::spoilings(built),
         2 => header::spoilings(built),
         3 => chain::spoilings(built),
         4 => child::spoilings(built),
         5 => form::spoilings(built),
-        6 => order::spoilings(built),
+        6 => K::misplaced(built),
         7 => links::spoilings(built),
         8 => totals::leaf_spoilings(built),
         9 => bits::spoilings(built),

@@ -4,7 +4,7 @@ use super::{Moment, Patch, Place, Spoiling, Stage};
 use crate::build::Built;
 
 /// Number 8; at depth 0 the same fields are the header's fault.
-pub fn leaf_spoilings(built: &Built) -> Vec<Spoiling> {
+pub fn leaf_spoilings<K>(built: &Built<K>) -> Vec<Spoiling> {
     let Some(leaves) = built.levels.last() else {
         return Vec::new();
     };
@@ -25,7 +25,7 @@ pub fn leaf_spoilings(built: &Built) -> Vec<Spoiling> {
 }
 
 /// Number 10.
-pub fn free_spoilings(built: &Built) -> Vec<Spoiling> {
+pub fn free_spoilings<K>(built: &Built<K>) -> Vec<Spoiling> {
     let free = built.free.len() as u32;
     let faults = [
         ("free_one_over", Patch::long(40, free + 1)),

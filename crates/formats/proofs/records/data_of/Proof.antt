@@ -9,9 +9,6 @@ data-at-requires c κs = search needs
 data-size-requires : tie.Need-data-size-requires
 data-size-requires c κs = search needs
 
-cast-part-at : tie.Need-cast-part-at
-cast-part-at c = search needs
-
 part-at-requires : tie.Need-part-at-requires
 part-at-requires c κs = search needs
 
@@ -19,5 +16,4 @@ returns : tie.Need-returns
 returns c = rw (← c .before .before .data-at .ensures .0, ← c .before .data-size .ensures .0) (c .part-at .ensures)
 
 pub data-of-spec : {M : Type 1} → statement M
-data-of-spec =
-    tie.close (tie.spec data-at-requires data-size-requires cast-part-at part-at-requires returns)
+data-of-spec = tie.close (tie.spec data-at-requires data-size-requires part-at-requires returns)

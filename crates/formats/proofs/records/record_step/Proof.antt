@@ -1,6 +1,7 @@
 -- `records::record_step` meets its contract. Assumes nothing.
 use mathlib.Core.Path.{ap, _∙_}
-use Rattle.formats.specs.Format.{recordSize, kindOf}
+use Rattle.frame.specs.Kinds.{kindOf}
+use Rattle.extent_nodes.specs.Records.{recordSize}
 use borrow.Author.Needs.{needs}
 use Rattle.formats.proofs.records.record_step.Statement.{statement}
 use Rattle.formats.proofs.records.record_step.Tie as tie

@@ -2,7 +2,7 @@
 use Rattle.btree.proofs.Decisions.{cond-yes, cond-no}
 use native.Mathlib.Decide.{ℕ-discrete}
 use mathlib.Core.Path.{sym}
-use Rattle.formats.specs.Format.{kindOn, leafKind, indexKind}
+use Rattle.frame.specs.Kinds.{kindOn, leafKind, indexKind}
 use Rattle.nodes.proofs.form.kind_on.Statement.{statement}
 use Rattle.nodes.proofs.form.kind_on.Tie as tie
 

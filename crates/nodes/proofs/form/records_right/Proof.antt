@@ -1,10 +1,12 @@
 -- `form::records_right` meets its contract. Assumes nothing.
 use native.Mathlib.Omega.{arith}
-use Rattle.btree.proofs.Decisions.{says-no}
-use borrow.Author.Tests.{not-true, not-false}
+use Prim.Native.Nat.{_+_, _*_}
+use Rattle.image.specs.Bytes.{be16At}
 use mathlib.Core.Path.{_≡_, sym, _∙_}
-use Rattle.formats.specs.Format.{Holds, kindOf, decRecords}
-use Rattle.nodes.proofs.Telling.{told-no, tells-says}
+use Rattle.btree.proofs.Decisions.{says-no}
+use Rattle.btree.proofs.Telling.{tells-says}
+use Rattle.frame.specs.Kinds.{kindOf}
+use Rattle.formats.specs.Format.{decRecords}
 use borrow.Author.Needs.{needs}
 use Rattle.nodes.proofs.form.records_right.Statement.{statement}
 use Rattle.nodes.proofs.form.records_right.Tie as tie
@@ -13,15 +15,15 @@ use Rattle.nodes.proofs.form.records_right.Tie as tie
 abbrev entry : tie.After-count-of → tie.Start
 entry c = c .before .before .before .before .before .before
 
-abbrev counted : tie.Else4 → tie.After-count-of
-counted c = c .before .before .before .before .before
+abbrev counted : tie.Then4 → tie.After-count-of
+counted c = c .before .before .before
 
 is-kind : (c : tie.After-count-of) → let a = entry c .args in kindOf (a .form) (a .image .now) (a .node) ≡ a .kind
 unfolding kindOf
 is-kind c = let k = c .before .before .before in sym (k .before .kind-of .ensures .0) ∙ k .if1 .left
 
-fits : (c : tie.Else4) → let n = counted c in Holds (entry n .args .form) (entry n .args .kind) (n .count-of .result)
-fits c = let e = c .before .before .records-bytes .ensures .0 in let z = c .before .before .before .record-size .ensures .0 in rw (← z) (omega arith)
+is-reserved : (c : tie.After-count-of) → let a = entry c .args in be16At (a .image .now) (a .node * a .form .size + 12) ≡ 0
+is-reserved c = sym (c .before .before .reserved-of .ensures .0) ∙ c .before .if2 .left
 
 kind-of-requires : tie.Need-kind-of-requires
 kind-of-requires c κs = search needs
@@ -42,73 +44,39 @@ count-of-requires c κs = search needs
 returns-3 : tie.Need-returns-3
 returns-3 c = sym (says-no (decRecords _ _ _ _) (λ r. let k = r .some in omega arith))
 
-record-size-requires : tie.Need-record-size-requires
-record-size-requires c κs = search needs
-
-cast-records-bytes : tie.Need-cast-records-bytes
-cast-records-bytes c = search needs
-
-records-bytes-requires : tie.Need-records-bytes-requires
-records-bytes-requires c κs = search needs
-
-add-if4 : tie.Need-add-if4
-add-if4 c = search needs
-
-cast-if4 : tie.Need-cast-if4
-cast-if4 c = search needs
-
-add-if4-2 : tie.Need-add-if4-2
-add-if4-2 c = search needs
-
-mul-if4 : tie.Need-mul-if4
-mul-if4 c = search needs
-
-add-if4-3 : tie.Need-add-if4-3
-add-if4-3 c = search needs
-
-cast-if4-2 : tie.Need-cast-if4-2
-cast-if4-2 c = search needs
+records-right-requires : tie.Need-records-right-requires
+records-right-requires c κs = search needs
 
 returns-4 : tie.Need-returns-4
 returns-4 c =
-    let b = c .before .before in
-    let n = b .before .before .before .count-of .ensures .0 in
-    let e = b .records-bytes .ensures .0 in
-    let z = b .before .record-size .ensures .0 in
-    sym (says-no (decRecords _ _ _ _) (λ r. let k = rw (← n, ← z) at (r .few) in omega arith))
+    let t = c .before in
+    let n = counted t in
+    tells-says _ (decRecords _ _ _ _) (c .records-right .ensures)
+    (λ l. record {
+      isKind = is-kind n;
+      reserved = is-reserved n;
+      some = omega (arith, n .count-of .ensures .0);
+      extents = λ _. l;
+      catalog = λ h. absurd (let e = t .if4 .taken in omega arith);
+    })
+    (λ r. r .extents (t .if4 .taken))
 
-offsets-right-requires : tie.Need-offsets-right-requires
-offsets-right-requires c κs = let h = fits c in (entry (counted c) .pre, omega arith, c .before .before .before .record-size .ensures .1)
+records-right-requires-2 : tie.Need-records-right-requires-2
+records-right-requires-2 c κs = search needs
 
 returns-5 : tie.Need-returns-5
 returns-5 c =
-    let f = c .before .before in
-    sym (says-no (decRecords _ _ _ _) (λ r. told-no _ (c .before .offsets-right .ensures) (not-true _ (c .if5 .taken))
-    (rw (f .before .before .before .record-size .ensures .0, counted f .count-of .ensures .0) (r .offsets))))
-
-keys-lawful-requires : tie.Need-keys-lawful-requires
-keys-lawful-requires c κs =
-    let f = c .before .before in
-    let n = counted f in
-    (entry n .pre, rw (is-kind n) (fits f), n .count-of .ensures .1)
-
-returns-6 : tie.Need-returns-6
-returns-6 c =
-    let o = c .before .before in
-    let f = o .before in
-    let n = counted f in
-    let d = n .before .before in
-    tells-says _ (decRecords _ _ _ _) (c .keys-lawful .ensures)
+    let t = c .before in
+    let n = t .before .before .before in
+    tells-says _ (decRecords _ _ _ _) (c .records-right2 .ensures)
     (λ l. record {
       isKind = is-kind n;
-      reserved = sym (d .reserved-of .ensures .0) ∙ n .before .if2 .left;
-      some = omega arith;
-      few = rw (← n .count-of .ensures .0) (fits f);
-      offsets = rw (← f .before .before .before .record-size .ensures .0, ← n .count-of .ensures .0) (o .offsets-right .ensures .holds (not-false _ (c .before .if5 .left)));
-      lengths = λ i h. l i (omega arith) .0;
-      forks = λ i h. l i (omega arith) .1;
+      reserved = is-reserved n;
+      some = omega (arith, n .count-of .ensures .0);
+      extents = λ h. absurd (t .if4 .left h);
+      catalog = λ _. l;
     })
-    (λ r i h. (r .lengths i (omega arith), r .forks i (omega arith)))
+    (λ r. r .catalog (let e = t .if4 .left in omega arith))
 
 pub records-right-spec : {M : Type 1} → statement M
 records-right-spec =
@@ -120,17 +88,7 @@ records-right-spec =
     returns-2
     count-of-requires
     returns-3
-    record-size-requires
-    cast-records-bytes
-    records-bytes-requires
-    add-if4
-    cast-if4
-    add-if4-2
-    mul-if4
-    add-if4-3
-    cast-if4-2
+    records-right-requires
     returns-4
-    offsets-right-requires
-    returns-5
-    keys-lawful-requires
-    returns-6)
+    records-right-requires-2
+    returns-5)

@@ -10,7 +10,7 @@ use Rattle.btree.specs.Keys.{Rises, decRises, firstFall}
 use Rattle.btree.proofs.Decisions.{none-not, not-first}
 use Rattle.formats.specs.Format.{view}
 use Rattle.order.specs.Bound.{bound}
-use Rattle.nodes.proofs.Telling.{told-no}
+use Rattle.btree.proofs.Telling.{told-no}
 use borrow.Author.Needs.{needs}
 use Rattle.order.proofs.keys.first_fall.Statement.{statement}
 use Rattle.order.proofs.keys.first_fall.Tie as tie

@@ -1,11 +1,9 @@
 -- `keys::keys_rise` meets its contract. Assumes nothing.
 use native.Mathlib.Omega.{arith}
 use mathlib.Core.Path.{_≡_, sym, _∙_}
-use Prim.Native.Nat.{ℕ, _-_}
+use Prim.Native.Nat.{ℕ}
 use borrow.Author.Tests.{not-false, ltb-true}
 use Rattle.btree.specs.Header.{viewOf}
-use Rattle.formats.specs.Key.{rankOf}
-use Rattle.nodes.proofs.Within.{key-inside}
 use Rattle.order.proofs.Bounds.{no-bound, bound-under}
 use borrow.Author.Needs.{needs}
 use Rattle.order.proofs.keys.keys_rise.Statement.{statement}
@@ -34,16 +32,8 @@ sub-record-at c = search needs
 record-at-requires : tie.Need-record-at-requires
 record-at-requires c κs = search needs
 
-key-in-requires : tie.Need-key-in-requires
-key-in-requires c κs =
-    let n = c .before .before .before .before .before in
-    let q = n .count-of .ensures .0 in
-    let r = c .record-at .ensures .0 in
-    let k = key-inside _ _ _ (n .before .before .pre .0) (n .count-of .result - 1) (omega arith) in
-    omega arith
-
-key-at-requires : tie.Need-key-at-requires
-key-at-requires c κs = search needs
+sub-is-below : tie.Need-sub-is-below
+sub-is-below c = search needs
 
 is-below-requires : tie.Need-is-below-requires
 is-below-requires c κs = search needs
@@ -51,16 +41,14 @@ is-below-requires c κs = search needs
 returns-4 : tie.Need-returns-4
 unfolding viewOf
 returns-4 c e =
-    let r = c .before .before .before in
+    let r = c .before in
     let k = r .before .before .before in
     let n = k .before .before in
     let a = n .before .before .args in
-    let x = rw (r .record-at .ensures .0) at (c .before .before .key-in .ensures) in
-    let b = ltb-true (rankOf (c .before .before .key-in .result)) (rankOf (c .before .key-at .result)) (sym (c .is-below .ensures) ∙ e) in
-    let y = c .before .key-at .ensures in
+    let b = ltb-true _ _ (sym (rw (r .record-at .ensures .0) at (c .is-below .ensures)) ∙ e) in
     record {
       ascend = k .keys-ascend .ensures .holds (not-false _ (r .before .before .if2 .left));
-      last = bound-under (a .form) (a .image .now) _ (a .high) (r .before .if3 .left) .1 (rw (← n .count-of .ensures .0, ← x, ← y) b);
+      last = bound-under (a .form) (a .image .now) _ (a .high) (r .before .if3 .left) .1 (rw (← n .count-of .ensures .0) b);
     }
 
 pub keys-rise-spec : {M : Type 1} → statement M
@@ -74,7 +62,6 @@ keys-rise-spec =
     returns-3
     sub-record-at
     record-at-requires
-    key-in-requires
-    key-at-requires
+    sub-is-below
     is-below-requires
     returns-4)

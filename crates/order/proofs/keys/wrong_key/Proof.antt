@@ -5,8 +5,8 @@ use Rattle.btree.specs.Hits.{hitOf}
 use Rattle.btree.proofs.Keys.{wrong-fall, wrong-zero}
 use Rattle.formats.specs.Format.{view}
 use Rattle.order.specs.Bound.{bound}
-use Rattle.order.proofs.Ascent.{none-wrong}
-use Rattle.nodes.proofs.Telling.{told-no}
+use Rattle.order.proofs.Rising.{none-wrong}
+use Rattle.btree.proofs.Telling.{told-no}
 use borrow.Author.Needs.{needs}
 use Rattle.order.proofs.keys.wrong_key.Statement.{statement}
 use Rattle.order.proofs.keys.wrong_key.Tie as tie

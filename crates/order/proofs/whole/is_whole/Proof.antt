@@ -2,9 +2,11 @@
 use mathlib.Core.Path.{sym, _∙_}
 use borrow.Author.Tests.{not-true, not-false}
 use Rattle.btree.proofs.Decisions.{says-no, said, unsaid}
-use Rattle.formats.specs.Format.{leafKind, Records, decRecords}
+use Rattle.frame.specs.Kinds.{leafKind}
+use Rattle.formats.specs.Format.{Records, decRecords}
+use Rattle.nodes.proofs.Within.{records-within}
 use Rattle.order.specs.Whole.{decWholeLeaf}
-use Rattle.nodes.proofs.Telling.{tells-says}
+use Rattle.btree.proofs.Telling.{tells-says}
 use borrow.Author.Needs.{needs}
 use Rattle.order.proofs.whole.is_whole.Statement.{statement}
 use Rattle.order.proofs.whole.is_whole.Tie as tie
@@ -19,7 +21,7 @@ returns : tie.Need-returns
 returns c = sym (says-no (decWholeLeaf _ _ _) (λ w. unsaid (decRecords _ _ _ _) (sym (c .before .records-right .ensures) ∙ not-true _ (c .if1 .taken)) (w .records)))
 
 keys-ascend-requires : tie.Need-keys-ascend-requires
-keys-ascend-requires c κs = let r = right c in record { node = c .before .before .before .pre; few = rw (r .isKind) (r .few) }
+keys-ascend-requires c κs = records-within _ _ _ leafKind (c .before .before .before .pre) (right c)
 
 returns-2 : tie.Need-returns-2
 returns-2 c = tells-says _ (decWholeLeaf _ _ _) (c .keys-ascend .ensures) (λ a. record { records = right (c .before); ascend = a }) (λ w. w .ascend)

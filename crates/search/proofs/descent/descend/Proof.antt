@@ -3,7 +3,7 @@ use native.Mathlib.Omega.{arith}
 use Prim.Native.Nat.{_-_}
 use mathlib.Core.Path.{sym, _∙_}
 use Rattle.btree.specs.Header.{viewOf}
-use Rattle.formats.specs.Key.{rankOf}
+use Rattle.formats.specs.Asked.{askedRank}
 use Rattle.formats.specs.Format.{view}
 use Rattle.search.proofs.Stored.{Stored, stored-none, stored-root, stored-child, stops-path, ends-path}
 use Rattle.search.proofs.Narrowing.{ends-inside}
@@ -12,10 +12,10 @@ use Rattle.search.proofs.descent.descend.Statement.{statement}
 use Rattle.search.proofs.descent.descend.Tie as tie
 
 abbrev Inv-loop : tie.InvT-loop
-Inv-loop form image key depth nodes₀ node₀ len₀ compared₀ nodes node len compared = Stored (view form image) (rankOf key) depth nodes node len compared
+Inv-loop form image key name depth nodes₀ node₀ len₀ compared₀ nodes node len compared = Stored (view form image) (askedRank form key name) depth nodes node len compared
 
 abbrev μ-loop : tie.MeasureT-loop
-μ-loop form image key depth nodes₀ node₀ len₀ compared₀ nodes node len compared = depth - len
+μ-loop form image key name depth nodes₀ node₀ len₀ compared₀ nodes node len compared = depth - len
 
 be16-requires : tie.Need-be16-requires Inv-loop μ-loop
 be16-requires c κs = search needs
@@ -27,8 +27,8 @@ returns : tie.Need-returns Inv-loop μ-loop
 unfolding viewOf
 returns c =
     let d = c .before .before in
-    let a = d .before .before .args in
-    c .absent .ensures ∙ stored-none (view (a .form) (a .image .now)) (rankOf (a .key)) (sym (d .be16 .ensures .0) ∙ c .before .if1 .taken)
+    let a = d .before .before .before .args in
+    c .absent .ensures ∙ stored-none (view (a .form) (a .image .now)) (askedRank (a .form) (a .key) (a .name .now)) (sym (d .be16 .ensures .0) ∙ c .before .if1 .taken)
 
 be32-requires : tie.Need-be32-requires Inv-loop μ-loop
 be32-requires c κs = search needs
@@ -40,13 +40,13 @@ loop-holds : tie.Need-loop-holds Inv-loop μ-loop
 unfolding viewOf
 loop-holds c =
     let d = c .before .before in
-    let s = d .before .before in
+    let s = d .before .before .before in
     let a = s .args in
     let e = d .be16 .ensures .0 in
-    rw (c .be32 .ensures) (stored-root (view (a .form) (a .image .now)) (rankOf (a .key)) _ (c .before .if1 .left) e (let h = s .pre .shallow in omega arith))
+    rw (c .be32 .ensures) (stored-root (view (a .form) (a .image .now)) (askedRank (a .form) (a .key) (a .name .now)) _ (c .before .if1 .left) e (let h = s .pre .shallow in omega arith))
 
 halve-requires : tie.Need-halve-requires Inv-loop μ-loop
-halve-requires c κs = let l = c .before in l .before .before .before .before .before .pre .inside _ _ (l .loop .inv .on)
+halve-requires c κs = let l = c .before in l .before .before .before .before .before .before .pre .inside _ _ (l .loop .inv .on)
 
 add-compared : tie.Need-add-compared Inv-loop μ-loop
 add-compared c = search needs
@@ -58,10 +58,10 @@ returns-2 : tie.Need-returns-2 Inv-loop μ-loop
 returns-2 c =
     let h = c .before .before .before in
     let l = h .before .before in
-    let s = l .before .before .before .before .before in
+    let s = l .before .before .before .before .before .before in
     let a = s .args in
     c .absent2 .ensures
-    ∙ stops-path (view (a .form) (a .image .now)) (rankOf (a .key)) (s .pre .tree) _ _ _ _ _ (l .loop .inv) _ (h .halve .ensures .0) (h .before .loop-test .taken) (c .before .if2 .taken)
+    ∙ stops-path (view (a .form) (a .image .now)) (askedRank (a .form) (a .key) (a .name .now)) (s .pre .tree) _ _ _ _ _ (l .loop .inv) _ (h .halve .ensures .0) (h .before .loop-test .taken) (c .before .if2 .taken)
 
 sub-child-of : tie.Need-sub-child-of Inv-loop μ-loop
 sub-child-of c = search needs
@@ -88,31 +88,31 @@ loop-again : tie.Need-loop-again Inv-loop μ-loop
 loop-again c =
     let h = c .before .before .before in
     let l = h .before .before in
-    let s = l .before .before .before .before .before in
+    let s = l .before .before .before .before .before .before in
     let a = s .args in
     rw (c .child-of .ensures)
-    (stored-child (view (a .form) (a .image .now)) (rankOf (a .key)) (s .pre .tree) _ _ _ _ _ (l .loop .inv) _ (h .halve .ensures .0) (h .before .loop-test .taken) (c .before .if2 .left) (h .halve .ensures .1))
+    (stored-child (view (a .form) (a .image .now)) (askedRank (a .form) (a .key) (a .name .now)) (s .pre .tree) _ _ _ _ _ (l .loop .inv) _ (h .halve .ensures .0) (h .before .loop-test .taken) (c .before .if2 .left) (h .halve .ensures .1))
 
 halve-requires-2 : tie.Need-halve-requires-2 Inv-loop μ-loop
-halve-requires-2 c κs = let l = c .before in l .before .before .before .before .before .pre .inside _ _ (l .loop .inv .on)
+halve-requires-2 c κs = let l = c .before in l .before .before .before .before .before .before .pre .inside _ _ (l .loop .inv .on)
+
+add-compared-2 : tie.Need-add-compared-2 Inv-loop μ-loop
+add-compared-2 c = search needs
 
 in-leaf-requires : tie.Need-in-leaf-requires Inv-loop μ-loop
 in-leaf-requires c κs =
-    let l = c .before .before in
-    let s = l .before .before .before .before .before in
+    let l = c .before .before .before in
+    let s = l .before .before .before .before .before .before in
     let a = s .args in
-    (s .pre .fair, ends-inside (view (a .form) (a .image .now)) (rankOf (a .key)) (l .loop .node) _ (c .halve2 .ensures .0))
-
-add-t26 : tie.Need-add-t26 Inv-loop μ-loop
-add-t26 c = search needs
+    (s .pre .fair, ends-inside (view (a .form) (a .image .now)) (askedRank (a .form) (a .key) (a .name .now)) (l .loop .node) _ (c .before .halve2 .ensures .0))
 
 returns-3 : tie.Need-returns-3 Inv-loop μ-loop
 returns-3 c =
     let h = c .before .before in
     let l = h .before .before in
-    let s = l .before .before .before .before .before in
+    let s = l .before .before .before .before .before .before in
     let a = s .args in
-    ends-path (view (a .form) (a .image .now)) (rankOf (a .key)) (s .pre .tree) _ _ _ _ _ (l .loop .inv) _ (h .halve2 .ensures .0) _ (h .before .loop-test .left) (c .before .in-leaf .ensures)
+    ends-path (view (a .form) (a .image .now)) (askedRank (a .form) (a .key) (a .name .now)) (s .pre .tree) _ _ _ _ _ (l .loop .inv) _ (h .halve2 .ensures .0) _ (h .before .loop-test .left) (c .in-leaf .ensures)
 
 pub descend-spec : {M : Type 1} → statement M
 descend-spec =
@@ -139,6 +139,6 @@ descend-spec =
     loop-less
     loop-again
     halve-requires-2
+    add-compared-2
     in-leaf-requires
-    add-t26
     returns-3)

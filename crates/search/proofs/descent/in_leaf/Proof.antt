@@ -2,7 +2,8 @@
 use mathlib.Core.Path.{sym, ap, _∙_}
 use borrow.Author.Tests.{eqb-true, eqb-false}
 use Rattle.btree.specs.declared.Answer.the-variants.{Found}
-use Rattle.formats.specs.Key.{rankOf}
+use Rattle.btree.specs.Header.{viewOf}
+use Rattle.formats.specs.Asked.{askedRank}
 use Rattle.formats.specs.Format.{view}
 use Rattle.search.proofs.Narrowing.{leaf-none, leaf-has, leaf-other}
 use borrow.Author.Needs.{needs}
@@ -10,16 +11,16 @@ use Rattle.search.proofs.descent.in_leaf.Statement.{statement}
 use Rattle.search.proofs.descent.in_leaf.Tie as tie
 
 returns : tie.Need-returns
-returns c = let a = c .before .before .args in leaf-none (view (a .form) (a .image .now)) (rankOf (a .key)) (a .node) (a .end) (c .if1 .taken)
+returns c = let a = c .before .before .before .args in leaf-none (view (a .form) (a .image .now)) (askedRank (a .form) (a .key) (a .name .now)) (a .node) (a .end) (c .if1 .taken)
 
-sub-key-of : tie.Need-sub-key-of
-sub-key-of c = search needs
+sub-record-at : tie.Need-sub-record-at
+sub-record-at c = search needs
 
-key-of-requires : tie.Need-key-of-requires
-key-of-requires c κs = search needs
+record-at-requires : tie.Need-record-at-requires
+record-at-requires c κs = search needs
 
-is-same-requires : tie.Need-is-same-requires
-is-same-requires c κs = search needs
+asked-same-requires : tie.Need-asked-same-requires
+asked-same-requires c κs = search needs
 
 sub-record-place : tie.Need-sub-record-place
 sub-record-place c = search needs
@@ -28,29 +29,31 @@ record-place-requires : tie.Need-record-place-requires
 record-place-requires c κs = search needs
 
 returns-2 : tie.Need-returns-2
+unfolding viewOf
 returns-2 c =
     let s = c .before .before in
     let k = s .before in
-    let a = k .before .before .before .args in
-    let e = eqb-true _ _ (sym (s .is-same .ensures) ∙ c .before .if2 .taken) in
+    let a = k .before .before .before .before .args in
+    let e = eqb-true _ _ (sym (rw (k .record-at .ensures .0) at (s .asked-same .ensures)) ∙ c .before .if2 .taken) in
     ap Found (c .record-place .ensures)
-    ∙ leaf-has (view (a .form) (a .image .now)) (rankOf (a .key)) (a .node) (a .end) (k .before .if1 .left) (sym (k .key-of .ensures) ∙ e)
+    ∙ leaf-has (view (a .form) (a .image .now)) (askedRank (a .form) (a .key) (a .name .now)) (a .node) (a .end) (k .before .if1 .left) e
 
 returns-3 : tie.Need-returns-3
+unfolding viewOf
 returns-3 c =
     let k = c .before .before in
-    let a = k .before .before .before .args in
-    let n = eqb-false _ _ (sym (c .before .is-same .ensures) ∙ c .if2 .left) in
-    leaf-other (view (a .form) (a .image .now)) (rankOf (a .key)) (a .node) (a .end) (k .before .if1 .left) (λ e. n (k .key-of .ensures ∙ e))
+    let a = k .before .before .before .before .args in
+    let n = eqb-false _ _ (sym (rw (k .record-at .ensures .0) at (c .before .asked-same .ensures)) ∙ c .if2 .left) in
+    leaf-other (view (a .form) (a .image .now)) (askedRank (a .form) (a .key) (a .name .now)) (a .node) (a .end) (k .before .if1 .left) n
 
 pub in-leaf-spec : {M : Type 1} → statement M
 in-leaf-spec =
     tie.close
     (tie.spec
     returns
-    sub-key-of
-    key-of-requires
-    is-same-requires
+    sub-record-at
+    record-at-requires
+    asked-same-requires
     sub-record-place
     record-place-requires
     returns-2

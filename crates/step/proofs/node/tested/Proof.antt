@@ -13,6 +13,7 @@ use Rattle.btree.specs.Header.{viewOf}
 use Rattle.btree.specs.Decide.{says}
 use Rattle.order.specs.Bound.{bound}
 use Rattle.formats.specs.Format.{decNodeOn, view}
+use Rattle.nodes.proofs.Within.{records-within}
 use borrow.Author.Needs.{needs}
 use Rattle.step.proofs.node.tested.Statement.{statement}
 use Rattle.step.proofs.node.tested.Tie as tie
@@ -53,7 +54,7 @@ unfolding viewOf
 wrong-key-requires c κs =
     let r = said (decNodeOn _ _ _ _ _) (head c) .records in
     let p = c .before .before .before .before .pre in
-    (record { node = p .1 (fresh (c .before .before)); few = rw (r .isKind) (r .few) }, p .3, p .4)
+    (records-within _ _ _ _ (p .1 (fresh (c .before .before))) r, p .3, p .4)
 
 enum-known-i : tie.Need-enum-known-i
 enum-known-i c = search needs

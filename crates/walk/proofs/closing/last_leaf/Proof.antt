@@ -1,5 +1,5 @@
 -- `closing::last_leaf` meets its contract. Assumes nothing.
-use Prim.Native.Nat.{ℕ, _-_, pred}
+use Prim.Native.Nat.{ℕ, pred, _-_}
 use lib.ListN.{getD}
 use native.Mathlib.Omega.{arith}
 use mathlib.Core.Path.{_≡_, ap, _∙_}

@@ -1,27 +1,18 @@
 -- `visit::pointer_at` meets its contract: the bound over what stands below a record is the next key, or the node's own bound. Assumes nothing.
 use native.Mathlib.Numerals.{add-one}
 use mathlib.Core.Option.{some}
-use mathlib.Core.List.{List}
 use Rattle.image.specs.Bytes.{be32At}
 use Rattle.btree.specs.Header.{viewOf}
-use Rattle.frame.specs.declared.form.Form.{Form}
-use Rattle.formats.specs.Key.{keyAt, rank}
-use Rattle.formats.proofs.Sizes.{record-next}
-use Rattle.order.specs.Bound.{bound}
-use Rattle.order.proofs.Bounds.{bound-some}
 use Rattle.btree.proofs.Decisions.{cond-yes, cond-no}
+use Rattle.order.proofs.Bounds.{bound-after}
 use native.Mathlib.Decide.{decLt}
-use Rattle.formats.specs.Format.{view}
-use Prim.Native.Nat.{ℕ, suc, _<_}
+use Rattle.formats.specs.Format.{rankAt, view}
+use Prim.Native.Nat.{ℕ, suc}
 use native.Mathlib.Omega.{arith}
-use mathlib.Core.Path.{_≡_, sym, ap, _∙_}
+use mathlib.Core.Path.{sym, ap, _∙_}
 use borrow.Author.Needs.{needs}
 use Rattle.walk.proofs.visit.pointer_at.Statement.{statement}
 use Rattle.walk.proofs.visit.pointer_at.Tie as tie
-
--- a bound is the key that stands at its place
-stands : (form : Form) (img : List ℕ) (at x : ℕ) → 0 < at → at ≡ x → bound form img at ≡ some (rank (keyAt form img x))
-stands form img at x h e = bound-some form img at (λ z. omega arith) ∙ ap (λ (y : ℕ). some (rank (keyAt form img y))) e
 
 child-place-requires : tie.Need-child-place-requires
 child-place-requires c κs = search needs
@@ -41,6 +32,9 @@ add-be32 c = search needs
 be32-requires : tie.Need-be32-requires
 be32-requires c κs = search needs
 
+add-low : tie.Need-add-low
+add-low c = search needs
+
 add-if1 : tie.Need-add-if1
 add-if1 c = search needs
 
@@ -56,14 +50,17 @@ returns c =
     record {
       child = b .be32 .ensures ∙ ap (be32At (a .image .now)) (omega arith);
       from = p .child-place .ensures;
-      low = stands (a .form) (a .image .now) _ _ (k .record-at .ensures .1) e;
+      low = bound-after (a .form) (a .image .now) _ ∙ ap (λ (x : ℕ). some (rankAt (a .form) (a .image .now) x)) e;
       under = sym (cond-no (decLt (suc (a .i)) (view (a .form) (a .image .now) .count (a .node))) _ _ (omega arith));
-      lowPlace = omega (arith, k .record-at .ensures .2);
+      lowPlace = omega (arith, k .record-at .ensures .1);
       highPlace = p .before .before .pre .3;
     }
 
-record-step-requires : tie.Need-record-step-requires
-record-step-requires c κs = search needs
+add-record-at : tie.Need-add-record-at
+add-record-at c = search needs
+
+record-at-requires-2 : tie.Need-record-at-requires-2
+record-at-requires-2 c κs = search needs
 
 add-next : tie.Need-add-next
 add-next c = search needs
@@ -78,17 +75,16 @@ returns-2 c =
     let v = view (a .form) (a .image .now) in
     let e = k .record-at .ensures .0 in
     let z = b .before .key-size .ensures .0 in
-    let s = c .record-step .ensures .0 in
-    let n = record-next (a .form) (a .image .now) (a .node) (a .i) in
     record {
       child = b .be32 .ensures ∙ ap (be32At (a .image .now)) (omega arith);
       from = p .child-place .ensures;
-      low = stands (a .form) (a .image .now) _ _ (k .record-at .ensures .1) e;
+      low = bound-after (a .form) (a .image .now) _ ∙ ap (λ (x : ℕ). some (rankAt (a .form) (a .image .now) x)) e;
       under =
-          stands (a .form) (a .image .now) _ _ (omega arith) (omega arith) ∙ ap (λ (j : ℕ). some (v .key (a .node) j)) (add-one (a .i))
+          bound-after (a .form) (a .image .now) _ ∙ ap (λ (x : ℕ). some (rankAt (a .form) (a .image .now) x)) (c .record-at2 .ensures .0)
+          ∙ ap (λ (j : ℕ). some (v .key (a .node) j)) (add-one (a .i))
           ∙ sym (cond-yes (decLt (suc (a .i)) (v .count (a .node))) _ _ (omega arith));
-      lowPlace = omega (arith, k .record-at .ensures .2);
-      highPlace = omega (arith, k .record-at .ensures .2);
+      lowPlace = omega (arith, k .record-at .ensures .1);
+      highPlace = omega (arith, c .record-at2 .ensures .1);
     }
 
 pub pointer-at-spec : {M : Type 1} → statement M
@@ -101,8 +97,10 @@ pointer-at-spec =
     cast-be32
     add-be32
     be32-requires
+    add-low
     add-if1
     returns
-    record-step-requires
+    add-record-at
+    record-at-requires-2
     add-next
     returns-2)

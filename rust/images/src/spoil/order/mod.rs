@@ -1,4 +1,5 @@
-//! Number 6: keys out of order, out of the bounds set above them or unlike their pointers.
+//! Number 6 in an extents tree: keys out of order, out of the bounds set above them or unlike their
+//! pointers.
 
 mod bounds;
 mod pairs;
@@ -6,11 +7,9 @@ mod pointers;
 mod twice;
 
 use super::family::{visit_order, Member};
-use super::form::record_size;
 use super::{Moment, Patch, Place, Spoiling, Stage, Step};
 use crate::build::Built;
 use crate::key::Key;
-use crate::node::RECORDS_AT;
 
 /// Changed keys, and which record of a node that makes the first one at fault.
 struct Fault {
@@ -59,8 +58,8 @@ fn set_key(built: &Built, member: Member, record: usize, key: Key) -> Patch {
 }
 
 /// Where a record starts in the image.
-fn record_at(built: &Built, member: Member, record: usize) -> usize {
-    member.at(built) + RECORDS_AT + record * record_size(built, member)
+pub fn record_at(built: &Built, member: Member, record: usize) -> usize {
+    member.at(built) + member.starts(built)[record]
 }
 
 /// The record at fault where the key of `raised` is at or over the next one but within the bounds:

@@ -1,0 +1,2 @@
+// The nodes of a catalog file.
+pub mod records;
