@@ -106,9 +106,6 @@ module _ (form : Form) (img : List ℕ) (kind n : ℕ) (r : CatalogRecords form 
   starts-even e (suc i) h = rw (r .next i (omega arith)) (end-even img kind (wordAt form img n i) (starts-even e i (omega arith)))
 
 module _ (form : Form) (img : List ℕ) (n : ℕ) (r : CatalogRecords form img leafKind n) (i : ℕ) (h : i < countOf (layoutOf form) img n) where
-  pub is-type : (1 ≤ typeAt img (wordAt form img n i)) × (typeAt img (wordAt form img n i) ≤ 4)
-  is-type = r .right i h .isType refl
-
   pub data-inside : dataAt img (wordAt form img n i) + sizeOfType (typeAt img (wordAt form img n i)) ≤ n * form .size + form .size
   data-inside =
       let e = end-leaf leafKind img (wordAt form img n i) refl in

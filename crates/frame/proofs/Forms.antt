@@ -1,6 +1,6 @@
 -- The forms that are listed, and the sizes that follow from one.
 -- Assumes nothing.
-use mathlib.Core.Path.{_≡_, refl, ap, _∙_}
+use mathlib.Core.Path.{_≡_, refl, ap}
 use mathlib.Core.Logic.{_⊎_, inl, inr, ⊎-elim}
 use mathlib.Core.List.{List, [], _∷_, List·Memᴰ·head, List·Memᴰ·tail, List·Memᴰ·not-nil, List·Memᴰ·cases-cons}
 use Prim.Native.Nat.{ℕ, zero, suc, _+_, _-_, _*_, _/_, _≤_, _<_}
@@ -68,15 +68,7 @@ module _ (form : Form) where
   unfolding nodeMapOf
   node-map-plus h = ap (λ (n : ℕ). form .size - n) (if-not (form .edition) 18 20 h)
 
-  -- a key of the extents overflow file has 8 or 12 bytes
-  pub key-size-hfs : form .tree ≡ 0 → form .edition ≡ 0 → keySize form ≡ 8
-  unfolding keySize
-  key-size-hfs t e = if-zero (form .tree) _ 38 t ∙ if-zero (form .edition) 8 12 e
-
-  pub key-size-plus : form .tree ≡ 0 → (form .edition ≡ 0 → ⊥) → keySize form ≡ 12
-  unfolding keySize
-  key-size-plus t h = if-zero (form .tree) _ 38 t ∙ if-not (form .edition) 8 12 h
-
+  -- how many bytes a key has, at least and in a catalog
   pub key-size-catalog : (form .tree ≡ 0 → ⊥) → keySize form ≡ 38
   unfolding keySize
   key-size-catalog h = if-not (form .tree) _ 38 h
