@@ -8,16 +8,16 @@ use native.Mathlib.Decide.{ℕ-discrete, decLe}
 use native.Mathlib.Omega.{arith}
 use lib.ListN.{length}
 use Rattle.btree.specs.declared.Place.{Place}
-use Rattle.btree.specs.declared.Answer.the-variants as treeAnswer
-use Rattle.btree.specs.declared.Lookup as treeLookup
 use Rattle.btree.specs.declared.Salvage.the-variants as treeSalvage
 use Rattle.btree.specs.Places.{imageOffset, recordPlace}
-use Rattle.btree.specs.Decide.{says}
+use Rattle.btree.specs.Lists.{_∈_}
+use Rattle.btree.specs.Tree.{Rec}
+use Rattle.btree.specs.Search.{placeOf}
 use Rattle.btree.specs.Header.{countOf, viewOf}
-use Rattle.btree.proofs.Answers.{found-leaf}
+use Rattle.btree.proofs.Paths.{leaf-stands}
 use Rattle.frame.specs.Form.{catalog, layoutOf}
 use Rattle.frame.specs.Kinds.{leafKind}
-use Rattle.catalog_keys.specs.Key.{Key, longestName, IsShort, rank}
+use Rattle.catalog_keys.specs.Key.{Key, longestName, IsShort}
 use Rattle.catalog_nodes.specs.Node.{typeAt, sizeOfType}
 use Rattle.catalog_entries.specs.declared.Entry.{Entry}
 use Rattle.catalog_entries.proofs.Types.{of-directory, of-file, of-directory-thread, of-file-thread}
@@ -25,17 +25,15 @@ use Rattle.formats.specs.Format.{Records}
 use Rattle.formats.proofs.Starts.{start-catalog}
 use Rattle.reader.specs.Reader as reader
 use Rattle.reader.specs.Salvage.{SalvageSays}
-use Rattle.reader.proofs.Demands.{lookup-by, found-sound}
 use Rattle.reader.proofs.Matches.{salvage-says}
 use Rattle.reader.proofs.Parts.{leaf-records}
-use Rattle.catalog.specs.declared.answers.Answer.the-variants.{Found}
 use Rattle.catalog.specs.declared.answers.Salvage.the-variants.{Seen}
 use Rattle.catalog.specs.Asked.{ofKey}
-use Rattle.catalog.specs.Answers.{entryOf, plainAnswer, plainSeen}
-use Rattle.catalog.specs.Reader.{view, lookedUp, salvaged}
+use Rattle.catalog.specs.Answers.{entryOf, plainSeen}
+use Rattle.catalog.specs.Reader.{view, Sound, leafList, salvaged}
 use Rattle.catalog.specs.Types.{FourTypes}
 use Rattle.catalog.proofs.Asked.{catalog-fair, means}
-use Rattle.catalog.proofs.Entries.{plain-answer, plain-seen, found-entry, seen-entry}
+use Rattle.catalog.proofs.Entries.{plain-seen, seen-entry}
 
 module _ (img : List ℕ) where
   -- of a record whose type is one of the four
@@ -66,19 +64,14 @@ module _ (img : List ℕ) where
       let s = start-catalog catalog img n i (λ z. omega arith) in
       four (recordPlace (view img) n i) (rw s l) (rw s m)
 
-  module _ (k : Key) (p : Place) (e : Entry) where
-    -- "Found says which of the four kinds it is, with its fields"
-    pub found-type : (lent : ℕ) → lookedUp img k lent .answer ≡ Found p e → FourTypes img p e
-    unfolding viewOf
-    found-type lent w =
-        let fair = catalog-fair catalog refl in
-        let a : reader.lookedUp catalog img (ofKey k) lent .answer ≡ treeAnswer.Found p = sym (plain-answer img _) ∙ ap plainAnswer w in
-        let b = sym (ap (λ (l : treeLookup.Lookup). l .answer) (lookup-by catalog img (ofKey k) lent)) ∙ a in
-        let (s, o) = found-sound catalog fair img (rank k) lent p (says (decLe (length (k .name)) longestName)) b in
-        let f = found-leaf (view img) (view img .depth) _ p o in
-        let r = record-type (f .node) (f .number) (leaf-records catalog fair img s (f .node) (f .among) .0) (f .inside) in
-        rw (found-entry img p e (reader.lookedUp catalog img (ofKey k) lent .answer) w) (subst (λ (x : Place). FourTypes img x (entryOf img x)) (f .starts) r)
+  -- so of every leaf record of a sound image
+  pub listed-type : Sound img → (x : Rec) → x ∈ leafList img → FourTypes img (placeOf x) (entryOf img (placeOf x))
+  unfolding viewOf
+  listed-type s x m =
+      let q = leaf-stands (view img) (s .tree) (s .totals) x m in
+      rw (q .isOffset) at (record-type (x .node) (x .number) (leaf-records catalog (catalog-fair catalog refl) img s (x .node) (q .leaf) .0) (q .inside))
 
+  module _ (k : Key) (p : Place) (e : Entry) where
     -- "Seen likewise."
     pub seen-type : salvaged img k ≡ Seen p e → FourTypes img p e
     unfolding viewOf

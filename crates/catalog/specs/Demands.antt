@@ -2,7 +2,7 @@
 -- Assumes nothing.
 use mathlib.Core.Path.{_≡_}
 use mathlib.Core.List.{List}
-use Prim.Native.Nat.{ℕ, _*_, _≤_}
+use Prim.Native.Nat.{ℕ, _+_, _*_, _≤_}
 use denote.Ref.{RefT}
 use lib.ListN.{length}
 use Rattle.btree.specs.declared.Place.{Place}
@@ -22,7 +22,8 @@ use Rattle.catalog.specs.declared.answers.Salvage.{Salvage}
 use Rattle.catalog.specs.declared.answers.Salvage.the-variants.{Seen}
 use Rattle.catalog.specs.Asked.{ofKey}
 use Rattle.catalog.specs.Answers.{entryOf, plain, plainSeen, refused}
-use Rattle.catalog.specs.Reader.{view, Sound, verdict, needed, TooFew, searchPath, lookupReply}
+use Rattle.catalog.specs.Reader.{view, Sound, verdict, needed, TooFew, searchPath, lookupReply, dataPart}
+use Rattle.catalog.specs.Types.{FourTypes}
 
 -- "A record has the asked key when the two keys compare as 0."
 abbrev pub HasKey : List ℕ → Key → Rec → Type 0
@@ -34,6 +35,10 @@ pub record SoundAnswer (img : List ℕ) (k : Key) (r : Lookup) : Type 0 where
   pub answer : demands.SoundAnswer catalog img (ofKey k) (plain r)
   -- "Found says which of the four kinds it is, with its fields"
   pub entry : (p : Place) (e : Entry) → r .answer ≡ Found p e → e ≡ entryOf img p
+  -- which tell its type and how many bytes its data has
+  pub types : (p : Place) (e : Entry) → r .answer ≡ Found p e → FourTypes img p e
+  -- and the image has them
+  pub inside : (p : Place) (e : Entry) → r .answer ≡ Found p e → dataPart img p .at + dataPart img p .size ≤ length img
   -- "at most the binary digits of the count in each node": "A leaf holds 1 to 8 records, an index node 1 to 11", which have at most four
   pub four : (n : ℕ) → n ∈ searchPath img k → halvedIn (view img) (rank k) n .compared ≤ 4
   pub few : r .compared ≤ 4 * length (searchPath img k)

@@ -1,5 +1,5 @@
 pub mod Asked
 pub mod Answers
 pub mod Reader
-pub mod Demands
 pub mod Types
+pub mod Demands

@@ -2,16 +2,18 @@
 pub mod answers;
 
 ghost use mathlib.Core.Path.{_≡_};
+ghost use Prim.Native.Nat.{_<_};
 ghost use native.Mathlib.Decide.{decLe};
 ghost use lib.ListN.{length};
 ghost use Rattle.btree.specs.Decide.{says};
 ghost use Rattle.catalog_keys.specs.Key.{asked, longestName};
-ghost use Rattle.catalog.specs.Reader.{checked, CheckSays, Leaves, lookedUp, lookupReply, foundPart, salvaged, seenPart};
+ghost use Rattle.catalog.specs.Reader.{checked, CheckSays, Leaves, lookedUp, lookupReply, dataPart, foundPart, salvaged, seenPart};
 ghost use Rattle.catalog.specs.Demands.{LookupSays, SalvageSays, PartOf};
 use answers::Lookup;
 use answers::Salvage;
 use answers::answered_as;
 use answers::seen_as;
+use btree::Place;
 use btree::Verdict;
 use extent_keys::key::SortKey;
 use frame::form::of_catalog;
@@ -57,6 +59,13 @@ pub fn lookup(image: &[u8], parent: u32, name: &[u8], work: &mut [u8]) -> Lookup
         path,
         compared: found.compared,
     }
+}
+
+// The byte of the image where the data starts of the leaf record at a place, as a lookup answers it.
+pub fn data_at(image: &[u8], place: Place) -> usize
+    ensures { λ r. ⌜ (r ≡ dataPart (now (image .entry)) place .at) × (r < 300000000000000) ⌝ }
+{
+    formats::records::data_at(of_catalog(), image, place)
 }
 
 // The data bytes of the record that a lookup finds, 70, 102 or 46, or else the empty part at the image's start.

@@ -7,6 +7,7 @@ use lib.ListN.{getD}
 use Rattle.image.specs.Bytes.{be16At, be32At}
 use Rattle.btree.specs.Decide.{cond}
 use Rattle.catalog_nodes.specs.Node.{dataAt, typeAt}
+use Rattle.extent_data.specs.Data.{extentDataAt}
 use Rattle.catalog_entries.specs.declared.Directory.{Directory}
 use Rattle.catalog_entries.specs.declared.Fork.{Fork}
 use Rattle.catalog_entries.specs.declared.File.{File}
@@ -34,12 +35,7 @@ module _ (img : List ℕ) where
         «first_block» = be16At img d;
         «logical_length» = be32At img (d + 2);
         «physical_length» = be32At img (d + 6);
-        «extent1_block» = be16At img e;
-        «extent1_count» = be16At img (e + 2);
-        «extent2_block» = be16At img (e + 4);
-        «extent2_count» = be16At img (e + 6);
-        «extent3_block» = be16At img (e + 8);
-        «extent3_count» = be16At img (e + 10);
+        extents = extentDataAt img e;
       }
 
   -- "2 file": "flags 2 (1), file type 3 (1), Finder info 4 (16), file ID 20 (4), data fork: first block 24 (2) ..; resource fork: first block 34 (2) ..;

@@ -3,6 +3,8 @@ ghost use mathlib.Core.Path.{_≡_};
 ghost use Prim.Native.Nat.{_<_};
 ghost use Rattle.catalog_entries.specs.Entry.{directoryAt, forkAt, fileAt, threadAt, entryAt};
 use catalog_nodes::records::data_at;
+use extent_data::ExtentData;
+use extent_data::extent_data_at;
 use image::bytes::be16;
 use image::bytes::be32;
 use image::bytes::byte_at;
@@ -16,17 +18,12 @@ pub struct Directory {
     pub backed_up: u32,
 }
 
-// Its first three extents are pairs of first block and block count.
+// With its first three extents.
 pub struct Fork {
     pub first_block: u32,
     pub logical_length: u32,
     pub physical_length: u32,
-    pub extent1_block: u32,
-    pub extent1_count: u32,
-    pub extent2_block: u32,
-    pub extent2_count: u32,
-    pub extent3_block: u32,
-    pub extent3_count: u32,
+    pub extents: ExtentData,
 }
 
 pub struct File {
@@ -82,22 +79,12 @@ fn fork_at(image: &[u8], start: usize, extents: usize) -> Fork
     let first_block = be16(image, start);
     let logical_length = be32(image, start + 2);
     let physical_length = be32(image, start + 6);
-    let extent1_block = be16(image, extents);
-    let extent1_count = be16(image, extents + 2);
-    let extent2_block = be16(image, extents + 4);
-    let extent2_count = be16(image, extents + 6);
-    let extent3_block = be16(image, extents + 8);
-    let extent3_count = be16(image, extents + 10);
+    let extents = extent_data_at(image, extents);
     Fork {
         first_block,
         logical_length,
         physical_length,
-        extent1_block,
-        extent1_count,
-        extent2_block,
-        extent2_count,
-        extent3_block,
-        extent3_count,
+        extents,
     }
 }
 

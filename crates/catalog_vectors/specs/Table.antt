@@ -49,7 +49,7 @@ partNumbers p = p .at ∷ p .size ∷ []
 abbrev forkNumbers : Fork → List ℕ
 forkNumbers f =
     f .«first_block» ∷ f .«logical_length» ∷ f .«physical_length»
-    ∷ f .«extent1_block» ∷ f .«extent1_count» ∷ f .«extent2_block» ∷ f .«extent2_count» ∷ f .«extent3_block» ∷ f .«extent3_count» ∷ []
+    ∷ f .extents .block1 ∷ f .extents .count1 ∷ f .extents .block2 ∷ f .extents .count2 ∷ f .extents .block3 ∷ f .extents .count3 ∷ []
 
 abbrev threadNumbers : Thread → List ℕ
 threadNumbers t = t .«parent_id» ∷ t .«name_length» ∷ []

@@ -1,3 +1,4 @@
 pub mod Reader
 pub mod Demands
 pub mod Many
+pub mod Floor

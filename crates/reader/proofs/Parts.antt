@@ -5,16 +5,19 @@ use mathlib.Core.List.{List, List·Memᴰ·not-nil}
 use Prim.Native.Nat.{ℕ, zero, suc, _+_, _≤_, _<_}
 use native.Mathlib.Omega.{arith}
 use lib.ListN.{length}
+use Rattle.btree.specs.Places.{imageOffset}
 use Rattle.btree.specs.Lists.{_∈_}
-use Rattle.btree.specs.Tree.{leavesAt, OnLevel}
+use Rattle.btree.specs.Tree.{Rec, leavesAt, OnLevel}
 use Rattle.btree.specs.Header.{depthOf, totalOf, countOf, viewOf}
+use Rattle.btree.specs.Search.{placeOf}
 use Rattle.btree.proofs.MapBits.{node-inside}
+use Rattle.btree.proofs.Paths.{leaf-stands}
 use Rattle.frame.specs.declared.form.Form.{Form}
 use Rattle.frame.specs.Form.{layoutOf, Fair}
 use Rattle.frame.proofs.Forms.{fits}
 use Rattle.frame.specs.Kinds.{leafKind}
 use Rattle.formats.specs.Format.{recordAt, dataAt, dataSizeAt, Records, view}
-use Rattle.reader.specs.Reader.{Sound}
+use Rattle.reader.specs.Reader.{Sound, leafList}
 use Rattle.formats.proofs.Starts.{record-inside}
 use Rattle.reader.proofs.Levels.{levels-iff}
 
@@ -41,3 +44,8 @@ module _ (form : Form) (fair : Fair form) (img : List ℕ) (s : Sound form img) 
   leaf-inside n i m u =
       let (r, l) = leaf-records n m in
       record-inside form img n i r (node-inside (layoutOf form) (fits form fair) img (s .lengths) (s .header .totalNodes) n l) u
+
+  -- so of a leaf record, by its place
+  pub listed-inside : (x : Rec) → x ∈ leafList form img → dataAt form img (imageOffset (layoutOf form) (placeOf x)) + dataSizeAt form img (imageOffset (layoutOf form) (placeOf x)) ≤ length img
+  unfolding viewOf
+  listed-inside x m = let q = leaf-stands (view form img) (s .tree) (s .totals) x m in rw (q .isOffset) at (leaf-inside (x .node) (x .number) (q .leaf) (q .inside))

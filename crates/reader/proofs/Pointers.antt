@@ -5,10 +5,12 @@ use mathlib.Core.Logic.{_↔_}
 use mathlib.Core.List.{List}
 use Prim.Native.Nat.{ℕ, suc, _<_}
 use lib.ListN.{length}
+use Rattle.btree.specs.declared.Answer.the-variants.{Found, Absent}
+use Rattle.btree.specs.declared.Place.{Place}
 use Rattle.btree.specs.Lists.{_∈_}
 use Rattle.btree.specs.Tree.{Rec, OnLevel}
 use Rattle.btree.specs.Header.{depthOf, viewOf}
-use Rattle.btree.specs.Search.{Floor, AtPathEnd}
+use Rattle.btree.specs.Search.{placeOf, Floor, AtPathEnd, floorOf}
 use Rattle.btree.proofs.Leaves.{on-child}
 use Rattle.btree.proofs.Floor as floor
 use Rattle.frame.specs.declared.form.Form.{Form}
@@ -35,3 +37,16 @@ module _ (form : Form) (img : List ℕ) (s : Sound form img) where
     pub cut-short : length (searchPath form img q) < depthOf img → (x : Rec) → x ∈ leafList form img → q .rank < x .key
     unfolding viewOf
     cut-short = floor.cut-short (view form img) (s .tree) (q .rank) node-filled (s .totals)
+
+  module _ (k : ℕ) where
+    -- the descent for the record with the highest key not above k finds it, by its start
+    pub floor-found : (p : Place) → (floorOf (view form img) k ≡ Found p) ↔ ((x : Rec) × Floor (view form img) k x × (placeOf x ≡ p))
+    floor-found = floor.floor-found (view form img) (s .tree) k node-filled (s .totals)
+
+    -- and says absent exactly where every leaf record's key is above k
+    pub floor-absent : ((n : ℕ) × (floorOf (view form img) k ≡ Absent n)) ↔ ((x : Rec) → x ∈ leafList form img → k < x .key)
+    floor-absent = floor.floor-absent (view form img) (s .tree) k node-filled (s .totals)
+
+    -- there is at most one such record
+    pub floor-once : (x y : Rec) → Floor (view form img) k x → Floor (view form img) k y → x ≡ y
+    floor-once = floor.floor-once (view form img) (s .tree) k node-filled (s .totals)

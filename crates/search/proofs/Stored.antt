@@ -1,5 +1,5 @@
 -- The descent, node after node: what is left of the path from here, stored after what is there, is the whole path, and the keys compared so far and
--- in what is left are all that are compared.
+-- in what is left are all that are compared; and so where it ends.
 -- Assumes nothing.
 use mathlib.Core.Path.{_≡_, refl, sym, ap, _∙_}
 use mathlib.Core.Logic.{_≢_}
@@ -10,19 +10,17 @@ use native.Mathlib.Omega.{arith}
 use native.Mathlib.Numerals.{add-one}
 use lib.ListN.{length, set, replicate, length-append, length-set}
 use lib.Seq.{set-append-seam}
-use Rattle.btree.specs.declared.Answer.{Answer}
-use Rattle.btree.specs.declared.Answer.the-variants.{Absent}
 use Rattle.btree.specs.declared.Halved.{Halved}
 use Rattle.btree.specs.Lists.{padded, fromOption}
 use Rattle.btree.specs.Tree.{View, OnLevel, SoundTree}
 use Rattle.btree.specs.Halving.{before}
-use Rattle.btree.specs.Search.{highestOf, pathFrom, pathAt, inLeaf, answerFrom, answerAt, halvedIn, withKey, comparedIn, descentOf}
+use Rattle.btree.specs.Search.{highestOf, pathFrom, pathAt, inLeaf, answerFrom, answerAt, floorFrom, floorAt, halvedIn, withKey, comparedIn}
 use Rattle.btree.proofs.Leaves.{on-root, on-child}
 use Rattle.btree.proofs.Paths.{highest-some, path-length}
 use Rattle.btree.proofs.Halving.{halved-pointer, halved-leaf}
 use Rattle.btree.proofs.Left.{one-more}
-use Rattle.search.specs.Descent.{stoppedAt}
-use Rattle.search.proofs.Narrowing.{before-none, before-some}
+use Rattle.search.specs.Descent.{reachedAt, Reaches}
+use Rattle.search.proofs.Narrowing.{before-none, before-some, ends-inside}
 
 -- numbers stored from place i on
 abbrev pub stored : List ℕ → ℕ → List ℕ → List ℕ
@@ -66,11 +64,12 @@ module _ (v : View) (k : ℕ) where
     pub path : stored nodes len (pathTail (depth - len) node) ≡ padded 8 (pathAt v depth k)
     pub size : len + length (pathTail (depth - len) node) ≡ length (pathAt v depth k)
     pub answer : answerFrom v (depth - len) k node ≡ answerAt v depth k
+    pub floor : floorFrom v (depth - len) k node ≡ floorAt v depth k
     pub tally : compared + comparedIn v k (node ∷ pathTail (depth - len) node) ≡ comparedIn v k (pathAt v depth k)
     pub low : compared ≤ 16 * (len - 1)
 
-  pub stored-none : v .depth ≡ 0 → stoppedAt (replicate 8 0) 0 0 0 ≡ descentOf v k
-  stored-none e = rw e
+  pub stored-none : v .depth ≡ 0 → Reaches v k (reachedAt (replicate 8 0) 0 0 0 0)
+  stored-none e = record { isPath = rw e; isCompared = rw e; inside = omega arith; isAnswer = rw e; isFloor = rw e }
 
   pub stored-root : (depth : ℕ) → depth ≢ 0 → depth ≡ v .depth → depth ≤ 8 → Stored depth (set (replicate 8 0) 0 (v .root)) (v .root) 1 0
   stored-root zero z f h = absurd (z refl)
@@ -88,6 +87,7 @@ module _ (v : View) (k : ℕ) where
         path = rw (e, p) (stored-after [] (v .root ∷ pathTail d (v .root)) 8 (let q = ap length p in omega arith));
         size = rw (e, p) (omega arith);
         answer = rw e;
+        floor = rw e;
         tally = rw (e, p) (omega arith);
         low = omega arith;
       }
@@ -119,30 +119,39 @@ module _ (v : View) (k : ℕ) where
           path = ap (λ (j : ℕ). stored (set nodes len (child node i)) j (pathTail h (child node i))) (add-one len) ∙ sym (ap (stored nodes len) w) ∙ t .path;
           size = let a = ap length w in let b = t .size in omega arith;
           answer = sym (rw (q, e)) ∙ t .answer;
+          floor = sym (rw (q, e)) ∙ t .floor;
           tally = let a = ap (comparedIn v k) w in let b = t .tally in let c = same-count in omega arith;
           low = let a = t .low in let p = t .some in omega arith;
         }
 
-    finish : (x : Answer) → x ≡ answerAt v depth k → pathTail (depth - len) node ≡ [] → record { answer = x; path = record { nodes = nodes; len = len }; compared = compared + r .compared } ≡ descentOf v k
-    finish x e w =
+    -- nothing of the path is left, and the record before the end is the one asked for
+    finish : (end : ℕ) → pathTail (depth - len) node ≡ [] → end ≤ count node → inLeaf v node (withKey v k node (before end)) ≡ answerAt v depth k
+        → inLeaf v node (before end) ≡ floorAt v depth k → Reaches v k (reachedAt nodes len (compared + r .compared) node end)
+    finish end w u a f =
         let p : nodes ≡ padded 8 (pathAt v depth k) = sym (ap (stored nodes len) w) ∙ t .path in
         let n : len ≡ length (pathAt v depth k) = let a = ap length w in let b = t .size in omega arith in
         let c : compared + r .compared ≡ comparedIn v k (pathAt v depth k) = let a = ap (comparedIn v k) w in let b = t .tally in let d = same-count in omega arith in
-        rw (e, p, n, c, t .deep)
+        record {
+          isPath = rw (p, n, t .deep);
+          isCompared = c ∙ ap (λ (d : ℕ). comparedIn v k (pathAt v d k)) (t .deep);
+          inside = u;
+          isAnswer = a ∙ ap (λ (d : ℕ). answerAt v d k) (t .deep);
+          isFloor = f ∙ ap (λ (d : ℕ). floorAt v d k) (t .deep);
+        }
 
     -- no pointer key is low enough
-    pub stops-path : len < depth → r .end ≡ 0 → stoppedAt nodes len node (compared + r .compared) ≡ descentOf v k
+    pub stops-path : len < depth → r .end ≡ 0 → Reaches v k (reachedAt nodes len (compared + r .compared) node 0)
     stops-path l z =
         let e = pointer none (before-none (r .end) z) in
         let q = one-more depth len l in
-        finish (Absent node) (sym (rw (q, e)) ∙ t .answer) (rw (q, e))
+        finish 0 (rw (q, e)) (omega arith) (sym (rw (q, e)) ∙ t .answer) (sym (rw (q, e)) ∙ t .floor)
 
     -- the leaf is reached
-    pub ends-path : (x : Answer) → depth ≤ len → x ≡ inLeaf v node (withKey v k node (before (r .end)))
-        → record { answer = x; path = record { nodes = nodes; len = len }; compared = compared + r .compared } ≡ descentOf v k
-    ends-path x l e =
+    pub ends-path : depth ≤ len → Reaches v k (reachedAt nodes len (compared + r .compared) node (r .end))
+    ends-path l =
         let q : depth - len ≡ 0 = let f = t .few in omega arith in
-        let w : answerFrom v 0 k node ≡ answerAt v depth k = sym (rw q) ∙ t .answer in
-        finish x
-        (e ∙ ap (λ (h : Halved). inLeaf v node (withKey v k node (before (h .end)))) is ∙ ap (inLeaf v node) (halved-leaf v s k (len - 1) node (t .on)) ∙ w)
-        (rw q)
+        let a : answerFrom v 0 k node ≡ answerAt v depth k = sym (rw q) ∙ t .answer in
+        let f : floorFrom v 0 k node ≡ floorAt v depth k = sym (rw q) ∙ t .floor in
+        finish (r .end) (rw q) (ends-inside v k node r is)
+        (ap (λ (h : Halved). inLeaf v node (withKey v k node (before (h .end)))) is ∙ ap (inLeaf v node) (halved-leaf v s k (len - 1) node (t .on)) ∙ a)
+        (sym (ap (inLeaf v node) (pointer (before (r .end)) refl)) ∙ f)

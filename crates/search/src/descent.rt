@@ -1,12 +1,12 @@
-// The descent from the root to a leaf.
+// The descent from the root to a leaf: to the record with a key, and to the one with the highest key not above it.
 ghost use mathlib.Core.Path.{_≡_};
 ghost use Prim.Native.Nat.{_≤_};
 ghost use Rattle.btree.specs.Halving.{before};
-ghost use Rattle.btree.specs.Search.{inLeaf, withKey, descentOf};
+ghost use Rattle.btree.specs.Search.{inLeaf, withKey, descentOf, floorOf};
 ghost use Rattle.frame.specs.Form.{Fair};
 ghost use Rattle.formats.specs.Asked.{askedRank};
 ghost use Rattle.formats.specs.Format.{view};
-ghost use Rattle.search.specs.Descent.{Searchable, stoppedAt};
+ghost use Rattle.search.specs.Descent.{Searchable, reachedAt, Reaches};
 use super::halving::halve;
 use btree::Answer;
 use btree::Lookup;
@@ -20,16 +20,54 @@ use frame::form::Form;
 use image::bytes::be16;
 use image::bytes::be32;
 
-fn absent(nodes: [u32; 8], len: u32, node: u32, compared: u32) -> Lookup
-    ensures { λ r. ⌜ r ≡ stoppedAt nodes len node compared ⌝ }
+// Where the search for a key ends: the node, and how many of its records are before the end; the nodes on the way there, and the keys compared.
+pub struct Reached {
+    pub path: Path,
+    pub compared: u32,
+    pub node: u32,
+    pub end: u32,
+}
+
+fn ended(nodes: [u32; 8], len: u32, compared: u32, node: u32, end: u32) -> Reached
+    ensures { λ r. ⌜ r ≡ reachedAt nodes len compared node end ⌝ }
 {
-    let answer = Answer::Absent(node);
     let path = Path { nodes, len };
-    Lookup {
-        answer,
+    Reached {
         path,
         compared,
+        node,
+        end,
     }
+}
+
+// From the root down, in each index node by the highest pointer key not above the asked one. With no such key the search ends there, before every record.
+fn reach(form: Form, image: &[u8], key: SortKey, name: &[u8]) -> Reached
+    requires { ⌜ Searchable form (now image) ⌝ }
+    ensures { λ r. ⌜ Reaches (view form (now (image .entry))) (askedRank form key (now (name .entry))) r ⌝ }
+{
+    let depth = be16(image, 14);
+    let mut nodes = [0u32; 8];
+    if depth == 0 {
+        return ended(nodes, 0, 0, 0, 0);
+    }
+    let mut node = be32(image, 16);
+    nodes[0] = node;
+    let mut len: u32 = 1;
+    let mut compared: u32 = 0;
+    while len < depth {
+        let halved = halve(form, image, node, key, name);
+        compared += halved.compared;
+        let end = halved.end;
+        if end == 0 {
+            return ended(nodes, len, compared, node, 0);
+        }
+        node = child_of(form, image, node, end - 1);
+        nodes[len as usize] = node;
+        len += 1;
+    }
+    let halved = halve(form, image, node, key, name);
+    compared += halved.compared;
+    ended(nodes, len, compared, node, halved.end)
 }
 
 // What a leaf says of the key where halving ends here: the record before the end may have it.
@@ -47,38 +85,29 @@ fn in_leaf(form: Form, image: &[u8], key: SortKey, name: &[u8], node: u32, end: 
     Answer::Absent(node)
 }
 
-// From the root down, in each index node by the highest pointer key not above the asked one.
+// The record with the asked key.
 pub fn descend(form: Form, image: &[u8], key: SortKey, name: &[u8]) -> Lookup
     requires { ⌜ Searchable form (now image) ⌝ }
     ensures { λ r. ⌜ r ≡ descentOf (view form (now (image .entry))) (askedRank form key (now (name .entry))) ⌝ }
 {
-    let depth = be16(image, 14);
-    let mut nodes = [0u32; 8];
-    if depth == 0 {
-        return absent(nodes, 0, 0, 0);
-    }
-    let mut node = be32(image, 16);
-    nodes[0] = node;
-    let mut len: u32 = 1;
-    let mut compared: u32 = 0;
-    while len < depth {
-        let halved = halve(form, image, node, key, name);
-        compared += halved.compared;
-        let end = halved.end;
-        if end == 0 {
-            return absent(nodes, len, node, compared);
-        }
-        node = child_of(form, image, node, end - 1);
-        nodes[len as usize] = node;
-        len += 1;
-    }
-    let halved = halve(form, image, node, key, name);
-    compared += halved.compared;
-    let answer = in_leaf(form, image, key, name, node, halved.end);
-    let path = Path { nodes, len };
+    let r = reach(form, image, key, name);
+    let answer = in_leaf(form, image, key, name, r.node, r.end);
+    let path = r.path;
     Lookup {
         answer,
         path,
-        compared,
+        compared: r.compared,
     }
+}
+
+// The record with the highest key not above the asked one.
+pub fn floor(form: Form, image: &[u8], key: SortKey, name: &[u8]) -> Answer
+    requires { ⌜ Searchable form (now image) ⌝ }
+    ensures { λ r. ⌜ r ≡ floorOf (view form (now (image .entry))) (askedRank form key (now (name .entry))) ⌝ }
+{
+    let r = reach(form, image, key, name);
+    if r.end == 0 {
+        return Answer::Absent(r.node);
+    }
+    Answer::Found(record_place(form, image, r.node, r.end - 1))
 }

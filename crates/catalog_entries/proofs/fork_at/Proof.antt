@@ -18,38 +18,8 @@ add-be32-2 c = search needs
 be32-requires-2 : tie.Need-be32-requires-2
 be32-requires-2 c κs = search needs
 
-be16-requires-2 : tie.Need-be16-requires-2
-be16-requires-2 c κs = search needs
-
-add-be16 : tie.Need-add-be16
-add-be16 c = search needs
-
-be16-requires-3 : tie.Need-be16-requires-3
-be16-requires-3 c κs = search needs
-
-add-be16-2 : tie.Need-add-be16-2
-add-be16-2 c = search needs
-
-be16-requires-4 : tie.Need-be16-requires-4
-be16-requires-4 c κs = search needs
-
-add-be16-3 : tie.Need-add-be16-3
-add-be16-3 c = search needs
-
-be16-requires-5 : tie.Need-be16-requires-5
-be16-requires-5 c κs = search needs
-
-add-be16-4 : tie.Need-add-be16-4
-add-be16-4 c = search needs
-
-be16-requires-6 : tie.Need-be16-requires-6
-be16-requires-6 c κs = search needs
-
-add-be16-5 : tie.Need-add-be16-5
-add-be16-5 c = search needs
-
-be16-requires-7 : tie.Need-be16-requires-7
-be16-requires-7 c κs = search needs
+extent-data-at-requires : tie.Need-extent-data-at-requires
+extent-data-at-requires c κs = search needs
 
 returns : tie.Need-returns
 returns c = cc
@@ -63,15 +33,5 @@ fork-at-spec =
     be32-requires
     add-be32-2
     be32-requires-2
-    be16-requires-2
-    add-be16
-    be16-requires-3
-    add-be16-2
-    be16-requires-4
-    add-be16-3
-    be16-requires-5
-    add-be16-4
-    be16-requires-6
-    add-be16-5
-    be16-requires-7
+    extent-data-at-requires
     returns)
