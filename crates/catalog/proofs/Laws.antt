@@ -2,7 +2,7 @@
 -- Assumes nothing.
 use mathlib.Core.Path.{_≡_, refl, sym, ap, subst, _∙_}
 use mathlib.Core.Logic.{_≢_}
-use mathlib.Core.List.{List}
+use mathlib.Core.List.{List, List·Memᴰ·head, List·Memᴰ·tail}
 use Prim.Native.Nat.{ℕ}
 use native.Mathlib.Decide.{ℕ-discrete}
 use Rattle.btree.specs.declared.Lookup as treeLookup
@@ -13,7 +13,7 @@ use Rattle.btree.specs.Search.{answerOf}
 use Rattle.btree.specs.Work.{soundNumbers}
 use Rattle.btree.proofs.Answers.{answer-number, descent-answers}
 use Rattle.btree.proofs.Checked.{check-says}
-use Rattle.btree.proofs.Work.{left-same, leaves}
+use Rattle.btree.proofs.Work.{left-untouched, left-same, leaves}
 use Rattle.frame.specs.Form.{catalog, layoutOf, Fair}
 use Rattle.frame.proofs.Forms.{fits}
 use Rattle.catalog_keys.specs.Key.{Key, IsShort, rank}
@@ -29,6 +29,10 @@ use Rattle.catalog.specs.Demands.{LookupSays}
 use Rattle.catalog.proofs.Asked.{catalog-fair, means}
 use Rattle.catalog.proofs.Entries.{plain-answer}
 use Rattle.catalog.proofs.Demands.{lookup-says}
+
+-- 11 leaves the working bytes as they were
+pub left-11 : (img work : List ℕ) → Leaves img 11 work work
+left-11 img work = leaves (layoutOf catalog) img (formatOf catalog) 11 work work (sym (left-untouched (layoutOf catalog) img (formatOf catalog) 11 work (List·Memᴰ·tail (List·Memᴰ·head refl))))
 
 module _ (img : List ℕ) (lent : ℕ) where
   abbrev fair : Fair catalog

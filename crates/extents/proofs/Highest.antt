@@ -1,20 +1,19 @@
 -- The leaf record with the highest key not above another: the descent for its number finds it, and the call for it says so.
 -- Assumes nothing.
 use mathlib.Core.Path.{_≡_, refl, sym, ap, subst, _∙_}
-use mathlib.Core.Logic.{_≢_, _↔_}
+use mathlib.Core.Logic.{_≢_}
 use mathlib.Core.List.{List}
 use Prim.Native.Nat.{ℕ, _+_, _*_, _≤_, _<_}
 use native.Mathlib.Omega.{arith}
 use native.Mathlib.Decide.{ℕ-discrete, decLe, decLt}
-use lib.IntN.{ℤ, pos, negsuc}
+use lib.IntN.{pos, negsuc}
 use lib.ListN.{length}
 use Rattle.btree.specs.declared.Answer.{Answer}
 use Rattle.btree.specs.declared.Answer.the-variants as answer
 use Rattle.btree.specs.declared.Place.{Place}
 use Rattle.btree.specs.declared.Verdict.{Verdict}
-use Rattle.btree.specs.Places.{imageStart, imageOffset}
+use Rattle.btree.specs.Places.{imageStart}
 use Rattle.btree.specs.Lists.{_∈_}
-use Rattle.btree.specs.Ranked.{ranked}
 use Rattle.btree.specs.Tree.{Rec}
 use Rattle.btree.specs.Header.{viewOf}
 use Rattle.btree.specs.Numbers.{lookupReply}
@@ -25,14 +24,14 @@ use Rattle.btree.proofs.Decisions.{cond-yes, cond-no}
 use Rattle.btree.proofs.Ordered.{if-zero, if-other}
 use Rattle.btree.proofs.Ranked.{ranked-below, ranked-above, ranked-same}
 use Rattle.btree.proofs.Paths.{leaf-stands}
-use Rattle.btree.proofs.Floors.{floor-answers, floor-number}
+use Rattle.btree.proofs.Floors.{floor-number}
 use Rattle.btree.proofs.Checked.{checked-else, of-few, check-says}
 use Rattle.btree.proofs.Soundness.{verdict-sound}
 use Rattle.btree.proofs.Work.{sound-most, left-same, leaves}
 use Rattle.frame.specs.Form.{hfs, layoutOf}
 use Rattle.frame.proofs.Forms.{hfs-listed, fair, fits}
 use Rattle.extent_keys.specs.declared.key.Key.{Key}
-use Rattle.extent_keys.specs.Key.{Lawful, decLawful, keyAt, compared, rank}
+use Rattle.extent_keys.specs.Key.{Lawful, decLawful, keyAt, rank}
 use Rattle.extent_keys.proofs.Order.{InRange, Bytes, key-range, rank-order}
 use Rattle.extent_nodes.specs.Records.{dataSize}
 use Rattle.formats.specs.Format.{formatOf, recordAt}
@@ -131,7 +130,7 @@ module _ (img : List ℕ) (bytes : Bytes img) (k : Key) (range : InRange k) (s :
           go (no l) = omega arith
 
   is-key : (x : Rec) → x ∈ leafList img → keyIn (recordOf img (placeOf x)) ≡ keyOf img x
-  unfolding viewOf
+  unfolding viewOf recordOf
   is-key x m = ap (λ (o : ℕ). keyAt hfs img (x .node * 512 + o)) (sym (leaf-stands (view img) (s .tree) (s .totals) x m .isOffset))
 
   inside : (p : Place) (e : ExtentRecord) → found ≡ floor.At p e → dataPart img p .at + 12 ≤ length img

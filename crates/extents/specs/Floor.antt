@@ -37,7 +37,7 @@ keyIn e = asked (e .file) (e .fork) (e .start)
 
 module _ (img : List ℕ) where
   -- the leaf record that starts at a place: its key, and "12 bytes, three pairs of first block and block count"
-  abbrev pub recordOf : Place → ExtentRecord
+  unfoldable pub recordOf : Place → ExtentRecord
   recordOf p =
       record {
         file = keyAt hfs img (imageOffset (layoutOf hfs) p) .file;

@@ -5,6 +5,7 @@ use Rattle.frame.specs.declared.form.Form.{Form}
 use Rattle.frame.specs.Form.{hfs, layoutOf, keySize, Fair}
 use Rattle.frame.proofs.Forms.{hfs-listed, fair}
 use Rattle.extent_keys.specs.Key.{keyAt}
+use Rattle.extents.specs.Floor.{recordOf}
 use borrow.Author.Needs.{needs}
 use Rattle.extents.proofs.floors.record_of.Statement.{statement}
 use Rattle.extents.proofs.floors.record_of.Tie as tie
@@ -40,7 +41,7 @@ extent-data-at-requires : tie.Need-extent-data-at-requires
 extent-data-at-requires c κs = search needs
 
 returns : tie.Need-returns
-unfolding keyAt keySize
+unfolding recordOf keyAt keySize
 returns c =
     let p = c .before .before .before .before in
     let o = p .before in
