@@ -9,9 +9,15 @@ ghost use Rattle.extents.specs.Reader.{checked, Leaves, lookedUp, foundPart, sa
 ghost use Rattle.extents.specs.Many.{manyAnswer, manyResults};
 ghost use Rattle.extent_keys.specs.Key.{asked};
 ghost use Rattle.catalog_keys.specs.Key as names;
-ghost use Rattle.catalog.specs.Reader as catalog;
+ghost use Rattle.catalog.specs.Reader as catalogReader;
+ghost use Rattle.blocks.specs.Blocks.{blockOf};
+ghost use Rattle.blocks.specs.Work.{catalogNumber, ExtentsLeft};
 ghost use Rattle.replies.specs.Written.{dataBytes, wideBytes, allBytes};
 ghost use Rattle.catalog_replies.specs.Written.{entryNumbers, seenNumbers};
+ghost use Rattle.block_replies.specs.Written.{blockNumbers, coveringBytes};
+use block_replies::block_numbers;
+use block_replies::covering_bytes;
+use blocks::block;
 use catalog_replies::entry_bytes;
 use catalog_replies::entry_numbers;
 use catalog_replies::seen_entry_bytes;
@@ -160,8 +166,8 @@ pub extern "C" fn hfs_extents_salvage(
 // Of a catalog: number, node, offset.
 #[no_mangle]
 pub extern "C" fn hfs_catalog_check(image: &[u8], work: &mut [u8], out: &mut [u32; 3])
-    ensures numbers { λ _. ⌜ now (out .exit) ≡ replyNumbers (catalog.checked (now (image .entry)) (length (now (work .entry)))) ⌝ }
-    ensures leaves { λ _. ⌜ catalog.Leaves (now (image .entry)) (catalog.checked (now (image .entry)) (length (now (work .entry))) .number) (now (work .entry)) (now (work .exit)) ⌝ }
+    ensures numbers { λ _. ⌜ now (out .exit) ≡ replyNumbers (catalogReader.checked (now (image .entry)) (length (now (work .entry)))) ⌝ }
+    ensures leaves { λ _. ⌜ catalogReader.Leaves (now (image .entry)) (catalogReader.checked (now (image .entry)) (length (now (work .entry))) .number) (now (work .entry)) (now (work .exit)) ⌝ }
 {
     *out = verdict_numbers(catalog::check(image, work));
 }
@@ -176,9 +182,9 @@ pub extern "C" fn hfs_catalog_lookup(
     out: &mut [u32; 15],
     data: &mut [u8; 102],
 )
-    ensures numbers { λ _. ⌜ now (out .exit) ≡ entryNumbers (catalog.lookedUp (now (image .entry)) (names.asked parent (now (name .entry))) (length (now (work .entry)))) ⌝ }
-    ensures bytes { λ _. ⌜ now («data» .exit) ≡ allBytes (now (image .entry)) (catalog.foundPart (now (image .entry)) (catalog.lookedUp (now (image .entry)) (names.asked parent (now (name .entry))) (length (now (work .entry))) .answer)) ⌝ }
-    ensures leaves { λ _. ⌜ catalog.Leaves (now (image .entry)) (catalog.lookupReply (catalog.lookedUp (now (image .entry)) (names.asked parent (now (name .entry))) (length (now (work .entry))) .answer) .number) (now (work .entry)) (now (work .exit)) ⌝ }
+    ensures numbers { λ _. ⌜ now (out .exit) ≡ entryNumbers (catalogReader.lookedUp (now (image .entry)) (names.asked parent (now (name .entry))) (length (now (work .entry)))) ⌝ }
+    ensures bytes { λ _. ⌜ now («data» .exit) ≡ allBytes (now (image .entry)) (catalogReader.foundPart (now (image .entry)) (catalogReader.lookedUp (now (image .entry)) (names.asked parent (now (name .entry))) (length (now (work .entry))) .answer)) ⌝ }
+    ensures leaves { λ _. ⌜ catalogReader.Leaves (now (image .entry)) (catalogReader.lookupReply (catalogReader.lookedUp (now (image .entry)) (names.asked parent (now (name .entry))) (length (now (work .entry))) .answer) .number) (now (work .entry)) (now (work .exit)) ⌝ }
 {
     let found = catalog::lookup(image, parent, name, work);
     let answer = found.answer;
@@ -195,10 +201,43 @@ pub extern "C" fn hfs_catalog_salvage(
     out: &mut [u32; 5],
     data: &mut [u8; 102],
 )
-    ensures numbers { λ _. ⌜ now (out .exit) ≡ seenNumbers (catalog.salvaged (now (image .entry)) (names.asked parent (now (name .entry)))) ⌝ }
-    ensures bytes { λ _. ⌜ now («data» .exit) ≡ allBytes (now (image .entry)) (catalog.seenPart (now (image .entry)) (catalog.salvaged (now (image .entry)) (names.asked parent (now (name .entry))))) ⌝ }
+    ensures numbers { λ _. ⌜ now (out .exit) ≡ seenNumbers (catalogReader.salvaged (now (image .entry)) (names.asked parent (now (name .entry)))) ⌝ }
+    ensures bytes { λ _. ⌜ now («data» .exit) ≡ allBytes (now (image .entry)) (catalogReader.seenPart (now (image .entry)) (catalogReader.salvaged (now (image .entry)) (names.asked parent (now (name .entry))))) ⌝ }
 {
     let seen = catalog::salvage(image, parent, name);
     *out = seen_numbers(seen);
     *data = seen_entry_bytes(image, seen);
+}
+
+// Number, image, node, offset, volume block, byte where the part starts in that image, its length; and the part.
+#[no_mangle]
+pub extern "C" fn hfs_block(
+    catalog: &[u8],
+    catalog_work: &mut [u8],
+    extents: &[u8],
+    extents_work: &mut [u8],
+    parent: u32,
+    name: &[u8],
+    fork: u8,
+    file_block: u16,
+    out: &mut [u32; 7],
+    data: &mut [u8; 12],
+)
+    ensures numbers { λ _. ⌜ now (out .exit) ≡ blockNumbers (blockOf (now (catalog .entry)) (now (extents .entry)) (length (now («catalog_work» .entry))) (length (now («extents_work» .entry))) (names.asked parent (now (name .entry))) fork «file_block») ⌝ }
+    ensures bytes { λ _. ⌜ now («data» .exit) ≡ coveringBytes (now (catalog .entry)) (now (extents .entry)) (blockOf (now (catalog .entry)) (now (extents .entry)) (length (now («catalog_work» .entry))) (length (now («extents_work» .entry))) (names.asked parent (now (name .entry))) fork «file_block») ⌝ }
+    ensures catalogLeaves { λ _. ⌜ catalogReader.Leaves (now (catalog .entry)) (catalogNumber (now (catalog .entry)) (length (now («catalog_work» .entry))) (names.asked parent (now (name .entry))) fork) (now («catalog_work» .entry)) (now («catalog_work» .exit)) ⌝ }
+    ensures extentsLeaves { λ _. ⌜ ExtentsLeft (now (extents .entry)) (catalogNumber (now (catalog .entry)) (length (now («catalog_work» .entry))) (names.asked parent (now (name .entry))) fork) (now («extents_work» .entry)) (now («extents_work» .exit)) ⌝ }
+{
+    let mapping = block(
+        catalog,
+        catalog_work,
+        extents,
+        extents_work,
+        parent,
+        name,
+        fork,
+        file_block,
+    );
+    *out = block_numbers(mapping);
+    *data = covering_bytes(catalog, extents, mapping);
 }

@@ -1,5 +1,6 @@
 // What is written of an answer: its numbers, and the data of a record.
 ghost use mathlib.Core.Path.{_≡_};
+ghost use Prim.Native.Nat.{_<_, _≤_};
 ghost use Rattle.btree.specs.Walk.{fails};
 ghost use Rattle.btree.specs.Lists.{padded};
 ghost use Rattle.btree.specs.Numbers.{lookupReply, salvageReply, replyNumbers, lookupNumbers};
@@ -75,13 +76,11 @@ pub fn salvage_reply(seen: Salvage) -> [u32; 3]
     }
 }
 
-// The data bytes of the record that starts at a place, 12 in HFS, 64 in HFS Plus and up to 102 in a catalog; the others are 0.
-fn record_bytes(form: Form, image: &[u8], place: Place) -> [u8; 102]
-    requires { ⌜ Fair form ⌝ }
-    ensures { λ r. ⌜ r ≡ allBytes (now (image .entry)) (reader.dataPart form (now (image .entry)) place) ⌝ }
+// So many bytes of the image, at most 102, from one of them on; the others are 0.
+pub fn part_bytes(image: &[u8], at: usize, size: usize) -> [u8; 102]
+    requires { ⌜ (at < 300000000000000) × (size ≤ 102) ⌝ }
+    ensures { λ r. ⌜ r ≡ allBytes (now (image .entry)) (record { at = at; size = size }) ⌝ }
 {
-    let at = data_at(form, image, place);
-    let size = data_size(form, image, place);
     let mut data = [0; 102];
     let mut k = 0;
     while k < size {
@@ -89,6 +88,18 @@ fn record_bytes(form: Form, image: &[u8], place: Place) -> [u8; 102]
         k += 1;
     }
     data
+}
+
+// The data bytes of the record that starts at a place, 12 in HFS, 64 in HFS Plus and up to 102 in a catalog.
+fn record_bytes(form: Form, image: &[u8], place: Place) -> [u8; 102]
+    requires { ⌜ Fair form ⌝ }
+    ensures { λ r. ⌜ r ≡ allBytes (now (image .entry)) (reader.dataPart form (now (image .entry)) place) ⌝ }
+{
+    part_bytes(
+        image,
+        data_at(form, image, place),
+        data_size(form, image, place),
+    )
 }
 
 pub fn found_bytes(form: Form, image: &[u8], answer: Answer) -> [u8; 102]
@@ -141,7 +152,7 @@ pub fn seen_wide(form: Form, image: &[u8], seen: Salvage) -> [u8; 64]
 }
 
 // The first twelve of them.
-fn narrow(all: [u8; 102]) -> [u8; 12]
+pub fn narrow(all: [u8; 102]) -> [u8; 12]
     ensures { λ r. ⌜ r ≡ padded 12 all ⌝ }
 {
     [

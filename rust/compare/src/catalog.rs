@@ -3,6 +3,6 @@
 mod comparison;
 mod expected;
 pub mod families;
-mod keys;
+pub mod keys;
 
 pub use comparison::CatalogComparison;

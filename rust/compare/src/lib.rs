@@ -1,6 +1,7 @@
 //! Asks the proved reader and the reference the same questions and stops at the first difference.
 
 mod asking;
+pub mod block;
 pub mod catalog;
 mod comparison;
 mod expected;
@@ -11,6 +12,7 @@ mod keys;
 mod lent;
 mod question;
 mod seed;
+mod shown;
 mod tally;
 
 pub use comparison::Comparison;

@@ -2,11 +2,8 @@
 
 use crate::form::Form;
 use crate::seed::{seed, SEED_VARIABLE};
+use crate::shown::show;
 use std::fmt::{self, Debug, Display};
-use std::{env, fs};
-
-const MOST_SHOWN: usize = 2_048;
-const MOST_WRITTEN: usize = 1 << 28;
 
 /// What an image is taken for.
 #[derive(Clone, Copy)]
@@ -56,30 +53,12 @@ impl<A: Debug> Question<'_, A> {
     pub fn same<T: Debug + PartialEq>(&self, got: &T, reader: &str, said: &T) {
         if got != said {
             let Question { family, tree, asked, .. } = self;
-            let (shown, seed) = (self.show(), seed());
+            let shown = show(&format!("{family}_{tree}"), self.image);
+            let seed = seed();
             panic!(
                 "{family}: the readers differ on {asked:?}, {tree}\n  \
                  proved: {got:?}\n  {reader}: {said:?}\n  {shown}\n  {SEED_VARIABLE}={seed}"
             );
-        }
-    }
-
-    /// A short image as hex digits; a longer one is written to a file.
-    fn show(&self) -> String {
-        let len = self.image.len();
-        if len <= MOST_SHOWN {
-            let digits: String = self.image.iter().map(|byte| format!("{byte:02x}")).collect();
-            return format!("image of {len} bytes: {digits}");
-        }
-        if len > MOST_WRITTEN {
-            return format!("image of {len} bytes, too long to write");
-        }
-        let Question { family, tree, .. } = self;
-        let name = format!("hfs_difference_{family}_{tree}.img").replace([' ', ','], "_");
-        let file = env::temp_dir().join(name);
-        match fs::write(&file, self.image) {
-            Ok(()) => format!("image of {len} bytes in {}", file.display()),
-            Err(error) => format!("image of {len} bytes, not written: {error}"),
         }
     }
 }

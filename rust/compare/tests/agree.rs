@@ -1,6 +1,8 @@
-//! Compares the two readers on every family of images, of extents in every format and of catalogs, on
-//! as many threads as there are cores.
+//! Compares the two readers on every family of images, of extents in every format and of catalogs, and on
+//! every family of volumes, on as many threads as there are cores.
 
+use compare::block::families::{BlockFamily, BLOCK_FAMILIES};
+use compare::block::{BlockComparison, BlockTally};
 use compare::catalog::families::{CatalogFamily, CATALOG_FAMILIES};
 use compare::catalog::CatalogComparison;
 use compare::families::{Family, FAMILIES};
@@ -14,18 +16,27 @@ use std::time::Instant;
 /// Fewer pairs than this, in any format, would be no comparison.
 const LEAST_PAIRS: u64 = 10_000;
 
+/// Nor would fewer blocks than this.
+const LEAST_BLOCKS: u64 = 100_000;
+
 /// What one thread compares at a time.
 #[derive(Clone, Copy)]
 enum Job {
     Extents(&'static Family, Format),
     Catalogs(&'static CatalogFamily),
+    Blocks(&'static BlockFamily),
 }
 
-/// A family in a format, with what was asked and how long it took.
+/// What was asked of a family: of images in a format, or of volumes.
+enum Counted {
+    Images(Format, Tally),
+    Volumes(BlockTally),
+}
+
+/// A family, with what was asked and how long it took.
 struct Part {
     family: &'static str,
-    format: Format,
-    tally: Tally,
+    counted: Counted,
     seconds: f64,
 }
 
@@ -35,22 +46,33 @@ fn main() {
     let parts = run_all(seed);
     let catalog_names = CATALOG_FAMILIES.iter().map(|family| family.name);
     for name in FAMILIES.iter().map(|family| family.name).chain(catalog_names) {
-        print_sum(name, &parts, |part| part.family == name);
+        print_sum(name, &parts, |part, _| part.family == name);
     }
     for format in Format::all().chain([Format::CATALOG]) {
         let Format { edition, tree, node_size } = format;
         let name = format!("{edition:?} {tree:?}, {node_size} bytes");
-        let tally = print_sum(&name, &parts, |part| part.format == format);
+        let tally = print_sum(&name, &parts, |_, of| of == format);
         assert!(tally.pairs >= LEAST_PAIRS, "fewer than {LEAST_PAIRS} pairs of {name}");
     }
-    print_total(print_sum("all", &parts, |_| true));
+    let images = print_sum("all images", &parts, |_, _| true);
+    for family in &BLOCK_FAMILIES {
+        print_blocks(family.name, &parts, |part| part.family == family.name);
+    }
+    let volumes = print_blocks("all volumes", &parts, |_| true);
+    assert!(volumes.blocks >= LEAST_BLOCKS, "fewer than {LEAST_BLOCKS} blocks");
+    volumes.assert_every_answer();
+    print_total(images);
+    print_total_of_volumes(&volumes);
+    let seconds: f64 = parts.iter().map(|part| part.seconds).sum();
+    println!("{seconds:.1} seconds, of all threads together");
 }
 
 /// The jobs are in the order of their families, so that those that take longest come first.
 fn jobs() -> Vec<Job> {
     let catalogs = CATALOG_FAMILIES.iter().map(Job::Catalogs);
     let of_family = |family| Format::all().map(move |format| Job::Extents(family, format));
-    FAMILIES.iter().flat_map(of_family).chain(catalogs).collect()
+    let blocks = BLOCK_FAMILIES.iter().map(Job::Blocks);
+    FAMILIES.iter().flat_map(of_family).chain(catalogs).chain(blocks).collect()
 }
 
 /// Threads of the usual stack size, as a caller's would be, take one job at a time.
@@ -74,33 +96,58 @@ fn run_all(seed: u64) -> Vec<Part> {
 
 fn run(job: Job, seed: u64) -> Part {
     let started = Instant::now();
-    let (family, format, tally) = match job {
+    let (family, counted) = match job {
         Job::Extents(family, format) => {
             let mut comparison = Comparison::new(family.name, format);
             (family.run)(&mut comparison, format, seed);
-            (family.name, format, comparison.tally())
+            (family.name, Counted::Images(format, comparison.tally()))
         }
         Job::Catalogs(family) => {
             let mut comparison = CatalogComparison::new(family.name);
             (family.run)(&mut comparison, seed);
-            (family.name, Format::CATALOG, comparison.tally())
+            (family.name, Counted::Images(Format::CATALOG, comparison.tally()))
+        }
+        Job::Blocks(family) => {
+            let mut comparison = BlockComparison::new(family.name);
+            (family.run)(&mut comparison, seed);
+            (family.name, Counted::Volumes(comparison.tally()))
         }
     };
-    Part { family, format, tally, seconds: started.elapsed().as_secs_f64() }
+    Part { family, counted, seconds: started.elapsed().as_secs_f64() }
 }
 
-/// Prints what the chosen parts come to, and says it.
-fn print_sum(name: &str, parts: &[Part], is_chosen: impl Fn(&Part) -> bool) -> Tally {
+/// Prints what the chosen parts come to that were asked of images, and says it.
+fn print_sum(name: &str, parts: &[Part], is_chosen: impl Fn(&Part, Format) -> bool) -> Tally {
     let mut sum = Tally::default();
     let mut seconds = 0.0;
-    for part in parts.iter().filter(|part| is_chosen(part)) {
-        sum += part.tally;
-        seconds += part.seconds;
+    for part in parts {
+        match &part.counted {
+            Counted::Images(format, tally) if is_chosen(part, *format) => {
+                sum += *tally;
+                seconds += part.seconds;
+            }
+            _ => {}
+        }
     }
     let Tally { images, pairs, found, absent, seen, .. } = sum;
     println!(
         "{name:30}{images:9} images{pairs:9} pairs: {found:8} found{absent:8} absent{seen:8} seen{seconds:7.1} s"
     );
+    sum
+}
+
+/// The same of volumes.
+fn print_blocks(name: &str, parts: &[Part], is_chosen: impl Fn(&Part) -> bool) -> BlockTally {
+    let mut sum = BlockTally::default();
+    let mut seconds = 0.0;
+    for part in parts.iter().filter(|part| is_chosen(part)) {
+        if let Counted::Volumes(tally) = &part.counted {
+            sum += tally;
+            seconds += part.seconds;
+        }
+    }
+    let BlockTally { volumes, blocks, .. } = sum;
+    println!("{name:30}{volumes:9} volumes{blocks:8} blocks{seconds:7.1} s");
     sum
 }
 
@@ -112,4 +159,13 @@ fn print_total(total: Tally) {
     println!("{} rows of keys, {} keys in those answered", total.rows, total.row_keys);
     let Tally { too_few, enough, more, .. } = total;
     println!("working bytes lent: {too_few} times too few, {enough} just enough, {more} more");
+}
+
+fn print_total_of_volumes(total: &BlockTally) {
+    let BlockTally { volumes, blocks, too_few, enough, more, .. } = total;
+    println!("{volumes} volumes, {blocks} volume-and-block pairs, no difference");
+    for (image, answers) in total.answers() {
+        println!("answers that concern the {image}, by number: {answers:?}");
+    }
+    println!("working bytes lent for an image: {too_few} times too few, {enough} just enough, {more} more");
 }

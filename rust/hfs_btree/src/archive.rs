@@ -93,6 +93,23 @@ extern "C" {
         out: *mut [u32; 5],
         data: *mut [u8; 102],
     );
+    fn hfs_block(
+        catalog: *const u8,
+        catalog_len: usize,
+        catalog_work: *mut u8,
+        catalog_work_len: usize,
+        extents: *const u8,
+        extents_len: usize,
+        extents_work: *mut u8,
+        extents_work_len: usize,
+        parent: u32,
+        name: *const u8,
+        name_len: usize,
+        fork: u8,
+        block: u16,
+        out: *mut [u32; 7],
+        data: *mut [u8; 12],
+    );
 }
 
 // What a call does not write would show as a number that no answer has.
@@ -239,5 +256,39 @@ pub fn catalog_salvage(image: &[u8], parent: u32, name: &[u8]) -> ([u32; 5], [u8
     // SAFETY: the image and the name are live slices and only read, and `out` and `data` are arrays of
     // their own.
     unsafe { hfs_catalog_salvage(bytes, len, parent, asked, asked_len, &mut out, &mut data) };
+    (out, data)
+}
+
+/// Each image with the working bytes lent for it, then the catalog key, the fork byte and the file block.
+pub fn block(
+    (catalog, catalog_work): (&[u8], &mut [u8]),
+    (extents, extents_work): (&[u8], &mut [u8]),
+    (parent, name): (u32, &[u8]),
+    fork: u8,
+    block: u16,
+) -> ([u32; 7], [u8; 12]) {
+    let mut out = [UNWRITTEN; 7];
+    let mut data = [UNWRITTEN_BYTE; 12];
+    // SAFETY: both images and the name are live slices and only read, `catalog_work` and `extents_work`
+    // are live slices lent to write, and `out` and `data` are arrays of their own.
+    unsafe {
+        hfs_block(
+            catalog.as_ptr(),
+            catalog.len(),
+            catalog_work.as_mut_ptr(),
+            catalog_work.len(),
+            extents.as_ptr(),
+            extents.len(),
+            extents_work.as_mut_ptr(),
+            extents_work.len(),
+            parent,
+            name.as_ptr(),
+            name.len(),
+            fork,
+            block,
+            &mut out,
+            &mut data,
+        )
+    };
     (out, data)
 }

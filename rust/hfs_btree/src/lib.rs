@@ -6,11 +6,15 @@
 //! of the image; [`needed_work`] says how many that is.
 //!
 //! The functions here read extents of HFS; those in [`editions`] read extents of HFS and HFS Plus, and
-//! those in [`catalog`] the catalog of HFS.
+//! those in [`catalog`] the catalog of HFS. [`block()`] reads the catalog and the extents of a volume
+//! together.
 
 mod archive;
+pub mod block;
 pub mod catalog;
 pub mod editions;
+
+pub use block::block;
 
 /// How many working bytes a check of an image of this length, or a lookup in it, needs.
 pub const fn needed_work(image_len: usize) -> usize {

@@ -1,7 +1,8 @@
 //! The sample images of the repository, as the generator makes them, and what the proved reader says of them.
 
+use hfs_btree::block::{block, Answer, Image};
 use hfs_btree::editions::{check, needed_work, Edition, Place, Verdict};
-use images::{bench, catalog, samples, Key};
+use images::{bench, catalog, samples, volume, Key};
 use std::path::Path;
 
 fn sample(name: &str) -> Vec<u8> {
@@ -55,4 +56,21 @@ fn of_the_catalog() {
         // A header with the key length of the other tree.
         assert_eq!(says(Edition::Hfs, 512, &made), (2, 0, 0), "{name}");
     }
+}
+
+#[test]
+fn of_a_volume() {
+    let (catalog, extents) = (sample("block_catalog.img"), sample("block_extents.img"));
+    assert_eq!(catalog, volume::bench::cartridge_catalog());
+    assert_eq!(extents, volume::bench::cartridge_extents());
+    assert_eq!(says(Edition::Hfs, 512, &extents), (0, 0, 0));
+    let (mut catalog_work, mut extents_work) = ([0], [0]);
+    let mut ask = |file_block| {
+        let work = (&mut catalog_work[..], &mut extents_work[..]);
+        block(&catalog, work.0, &extents, work.1, 2, b"Heights", 0x00, file_block)
+    };
+    // The last block of the file record, the first of an extents record, and none.
+    assert_eq!((ask(4).image, ask(4).volume_block), (Image::Catalog, 40));
+    assert_eq!((ask(5).image, ask(5).volume_block), (Image::Extents, 50));
+    assert_eq!(ask(18).answer, Answer::NotCovered);
 }

@@ -7,7 +7,7 @@ use crate::node::*;
 use crate::numbering::{number_nodes, Numbering};
 use crate::plan::Plan;
 use crate::rng::Rng;
-use crate::shape::{add_pointers, make_records, share_nodes, share_records};
+use crate::shape::{add_pointers, make_records, share_given, share_nodes, share_records};
 use crate::tree_key::TreeKey;
 use std::ops::Range;
 
@@ -56,6 +56,15 @@ pub fn build(plan: &Plan) -> Built {
     let record_groups = share_records(&mut rng, plan);
     let record_count = record_groups.last().map_or(0, |group| group.end);
     let records = make_records(&mut rng, plan.format, record_count);
+    lay_out(&mut rng, plan, groups, record_groups, records)
+}
+
+/// Builds the image of a plan with these records, ascending, in place of those that it would make; its
+/// leaves have room for all and get one at least.
+pub fn build_with_records(plan: &Plan, records: Vec<Record>) -> Built {
+    let mut rng = Rng::new(plan.seed);
+    let groups = share_nodes(&mut rng, plan);
+    let record_groups = share_given(&mut rng, plan, records.len());
     lay_out(&mut rng, plan, groups, record_groups, records)
 }
 

@@ -8,6 +8,6 @@ mod key;
 mod names;
 pub mod samples;
 
-pub use build::{build, Built, CatalogPlan};
+pub use build::{build, build_with, Built, CatalogPlan};
 pub use key::{Key, BEFORE_NAME, MOST_NAME};
 pub use names::{any_name, other_case};

@@ -1,5 +1,5 @@
-//! Builds images of extents overflow files, of HFS and HFS Plus, and of HFS catalog files: sound ones,
-//! the paper's bench images and spoiled ones.
+//! Builds images of extents overflow files, of HFS and HFS Plus, of HFS catalog files, and of both of
+//! one volume: sound ones, the paper's bench images and spoiled ones.
 //!
 //! Nothing here reads an image back; what a reader should say follows from how it was built.
 
@@ -21,8 +21,9 @@ mod shape;
 pub mod spoil;
 mod tree_key;
 mod trees;
+pub mod volume;
 
-pub use build::{build, Built, Level};
+pub use build::{build, build_with_records, Built, Level};
 pub use format::{Edition, Format, Tree, PLUS_NODE_SIZES};
 pub use key::Key;
 pub use node::{Pointer, Record};

@@ -37,6 +37,12 @@ pub fn share_records(rng: &mut Rng, plan: &Plan) -> Vec<Range<usize>> {
     consecutive(&counts)
 }
 
+/// Shares so many records out over the leaves, at least one to each and at most what fits.
+pub fn share_given(rng: &mut Rng, plan: &Plan, records: usize) -> Vec<Range<usize>> {
+    let leaves = plan.level_sizes.last().copied().unwrap_or(0);
+    consecutive(&share(rng, records, leaves, plan.format.most_leaf_records()))
+}
+
 /// Records with strictly ascending keys, some close together and some far apart.
 pub fn make_records(rng: &mut Rng, format: Format, count: usize) -> Vec<Record> {
     let widest_gap = format.lawful_keys() / (count as u128 + 1);

@@ -3,7 +3,7 @@
 use images::bench::*;
 use images::by_hand::three_levels_by_hand;
 use images::spoil::{spoilings, KeyFaults, Spoiling};
-use images::{bench_plus, catalog, samples, Built, Format, Key};
+use images::{bench_plus, catalog, samples, volume, Built, Format, Key};
 use std::collections::BTreeMap;
 
 /// An image with the name of its file and the format it is to be read in.
@@ -34,6 +34,7 @@ pub fn catalogue() -> Vec<Sample> {
     all.extend(with_spoiled("catalog_three_level", catalog::samples::three_level()));
     all.push(catalog_sample("largest", catalog::samples::largest().image));
     all.push(catalog_sample("largest_mixed", catalog::samples::largest_mixed().image));
+    all.extend(volume_samples());
     all
 }
 
@@ -122,6 +123,13 @@ fn catalog_bench_samples() -> Vec<Sample> {
         ("prefix_above", catalog::bench::two_names([b"abc", b"ab"])),
     ];
     all.into_iter().map(|(name, image)| catalog_sample(name, image)).collect()
+}
+
+/// The catalog and the extents of one volume.
+fn volume_samples() -> [Sample; 2] {
+    let catalog = sample("block_catalog", volume::bench::cartridge_catalog());
+    let extents = sample("block_extents", volume::bench::cartridge_extents());
+    [Sample { format: Format::CATALOG, ..catalog }, extents]
 }
 
 /// The sound image, and two spoiled versions for each thing that can be wrong with it.

@@ -3,10 +3,12 @@
 //!
 //! It answers whether the image is sound, what stands under a key or under each of many, and what can
 //! be salvaged. The functions here read extents of HFS; [`editions`] has both editions, and
-//! [`catalog`] the catalog.
+//! [`catalog`] the catalog. [`block()`] reads a catalog and its extents together.
 
+pub mod block;
 pub mod catalog;
 mod check;
+mod descent;
 mod edition;
 pub mod editions;
 mod halving;
@@ -21,6 +23,7 @@ mod listing;
 mod lookup;
 mod many;
 mod map;
+mod nearest;
 mod node;
 mod node_set;
 mod place;
@@ -32,6 +35,7 @@ mod tree;
 mod verdict;
 mod work;
 
+pub use block::block;
 pub use hfs_calls::{check, lookup, salvage};
 pub use key::Key;
 pub use leaves::{leaf_records, LeafRecord};

@@ -1,17 +1,16 @@
 //! What stands under each of many keys of a sound image.
 
 use crate::check::{open, SoundImage};
-use crate::halving::halve;
+use crate::descent::leaf_for;
 use crate::hfs::{Hfs, NODE_SIZE};
 use crate::key::is_lawful_packed;
 use crate::layout::Layout;
 use crate::node::range_in_image;
 use crate::place::Place;
-use crate::record::{child, Keyed};
+use crate::record::Keyed;
 use crate::verdict::{Verdict, RESULT_ROW};
 
 type Leaf = <Hfs as Layout>::Leaf;
-type Index = <Hfs as Layout>::Index;
 
 // Both lie in the header node, so no record's data can start there.
 const ABSENT: u32 = 0;
@@ -46,15 +45,9 @@ fn result_of(sound: &SoundImage<NODE_SIZE>, asked: u64) -> u32 {
     data_start(sound, asked).map_or(ABSENT, |start| start as u32)
 }
 
-/// Where in the image the data under a key start, by a descent that keeps only its last node.
+/// Where in the image the data under a key start.
 fn data_start(sound: &SoundImage<NODE_SIZE>, asked: u64) -> Option<usize> {
-    let levels_above_leaves = sound.header.depth.checked_sub(1)?;
-    let mut number = sound.header.root as usize;
-    for _ in 0..levels_above_leaves {
-        let node = &sound.nodes[number];
-        let record = halve::<Index>(Index::records(node), asked).reached?;
-        number = child::<Hfs, NODE_SIZE>(node, record) as usize;
-    }
+    let number = leaf_for(sound, asked)?;
     let records = Leaf::records(&sound.nodes[number]);
     let record = Hfs::find(records, asked)?;
     Some(range_in_image::<NODE_SIZE>(number, Leaf::data(records, record)).start)

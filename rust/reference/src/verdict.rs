@@ -13,8 +13,12 @@ pub const LEAF_TOTALS: u32 = 8;
 pub const MAP_BITS: u32 = 9;
 pub const FREE_COUNT: u32 = 10;
 pub const ASKED_KEY: u32 = 11;
+pub const ABSENT: u32 = 12;
 pub const RESULT_ROW: u32 = 15;
 pub const WORKING_BYTES: u32 = 16;
+pub const NOT_COVERED: u32 = 17;
+pub const VOLUME_BLOCK: u32 = 18;
+pub const NOT_A_FILE: u32 = 24;
 pub const FORMAT: u32 = 25;
 
 /// What a check or a call for many keys answers: a number and the place that belongs to it.

@@ -1,8 +1,9 @@
 //! Times the proved reader and the reference on sound images of 1 to 65,536 nodes, under many keys at
-//! once, in one full leaf, on HFS Plus, and on catalogs; nothing is asserted.
+//! once, in one full leaf, on HFS Plus, on catalogs, and on a volume; nothing is asserted.
 
 use compare::packed;
 use hfs_btree::editions as proved;
+use images::volume::{self, FileFork, Volume};
 use images::{bench, catalog, samples, Built, Format, Key, Rng};
 use reference::editions as plain;
 use std::hint::black_box;
@@ -19,6 +20,9 @@ const MOST_NODES: usize = 65_536;
 
 /// As many nodes of 4,096 bytes as make an image as long as the largest of HFS.
 const PLUS_NODES: usize = 8_192;
+
+/// The catalog over the largest extents tree.
+const CATALOG_NODES: usize = 4_000;
 
 /// What a full leaf of HFS has.
 const MOST_LEAF_RECORDS: usize = 22;
@@ -50,6 +54,8 @@ fn main() {
     largest_catalog(&catalog::samples::largest_in_order());
     println!("catalog of all types, nodes in a random order");
     largest_catalog(&catalog::samples::largest_mixed());
+    println!("volume, nodes in a random order");
+    largest_volume(&volume::samples::largest_under(CATALOG_NODES));
 }
 
 fn largest(built: &Built) {
@@ -133,6 +139,34 @@ fn largest_catalog(built: &catalog::Built) {
         || hfs_btree::catalog::salvage(image(), u32::MAX, &name),
         || reference::catalog::salvage(image(), u32::MAX, &name),
     );
+}
+
+/// Blocks of a file: one that its own record covers, and one of the last extents record of a fork.
+fn largest_volume(volume: &Volume) {
+    let [catalog, extents] = [&volume.catalog.image, &volume.extents.image];
+    let [catalog_nodes, nodes] = [volume.catalog.total(), volume.extents.total()];
+    println!("catalog of {catalog_nodes} nodes, extents of {nodes}, median of {RUNS}");
+    let [mut ours, mut theirs] = lent(extents);
+    let [mut our_catalog, mut their_catalog] = lent(catalog);
+    let FileFork { key, fork_byte, fork, .. } = &volume.forks[volume.forks.len() / 2];
+    let last_block = fork.later.last().map_or(0, |piece| piece.start);
+    let images = || black_box((catalog.as_slice(), extents.as_slice()));
+    for (name, block) in [("first", 0), ("block", last_block)] {
+        let (parent, name_bytes, fork) = (key.parent, &key.name, *fork_byte);
+        report(
+            name,
+            || {
+                let (catalog, extents) = images();
+                let work = (&mut our_catalog, &mut ours);
+                hfs_btree::block(catalog, work.0, extents, work.1, parent, name_bytes, fork, block)
+            },
+            || {
+                let (catalog, extents) = images();
+                let work = (&mut their_catalog, &mut theirs);
+                reference::block(catalog, work.0, extents, work.1, parent, name_bytes, fork, block)
+            },
+        );
+    }
 }
 
 /// A key above those of all records.

@@ -66,9 +66,15 @@ impl CatalogPlan {
 
 /// Builds the image of a plan; the same plan always gives the same bytes.
 pub fn build(plan: &CatalogPlan) -> Built {
+    build_with(plan, |_| ())
+}
+
+/// The same image after a change of the data of its records, which keeps their types.
+pub fn build_with(plan: &CatalogPlan, change: impl FnOnce(&mut [Record<Key>])) -> Built {
     let mut rng = Rng::new(plan.shape.seed);
     let groups = share_nodes(&mut rng, &plan.shape);
-    let (records, counts) = fill_leaves(&mut rng, plan);
+    let (mut records, counts) = fill_leaves(&mut rng, plan);
+    change(&mut records);
     lay_out(&mut rng, &plan.shape, groups, consecutive(&counts), records)
 }
 

@@ -8,6 +8,9 @@ pub const FILE: u8 = 2;
 pub const DIRECTORY_THREAD: u8 = 3;
 pub const FILE_THREAD: u8 = 4;
 
+/// Three pairs of first block and block count.
+pub type Pairs = [(u16, u16); 3];
+
 /// The types there are.
 pub const TYPES: [u8; 4] = [DIRECTORY, FILE, DIRECTORY_THREAD, FILE_THREAD];
 
@@ -36,19 +39,38 @@ pub fn directory(id: u32, valence: u16) -> Vec<u8> {
     data
 }
 
-/// A file whose data fork has these first extents, each as first block and block count, and lengths;
-/// it has no resource fork, and every field that is not named is zero.
-pub fn file(id: u32, extents: [(u16, u16); 3], logical: u32, physical: u32) -> Vec<u8> {
-    let mut data = empty(FILE);
-    put32(&mut data, 20, id);
+/// A file whose data fork has these first extents and lengths; it has no resource fork, and every field
+/// that is not named is zero.
+pub fn file(id: u32, extents: Pairs, logical: u32, physical: u32) -> Vec<u8> {
+    let mut data = file_with_forks(id, extents, [(0, 0); 3]);
     put16(&mut data, 24, extents[0].0);
     put32(&mut data, 26, logical);
     put32(&mut data, 30, physical);
-    for (index, (first_block, block_count)) in extents.into_iter().enumerate() {
-        put16(&mut data, 74 + 4 * index, first_block);
-        put16(&mut data, 76 + 4 * index, block_count);
-    }
     data
+}
+
+/// A file with the first extents of its data fork and of its resource fork; all else is zero.
+pub fn file_with_forks(id: u32, data_fork: Pairs, resource_fork: Pairs) -> Vec<u8> {
+    let mut data = empty(FILE);
+    put_file(&mut data, id, [data_fork, resource_fork]);
+    data
+}
+
+/// Writes the number of a file and the first extents of its data fork and of its resource fork.
+pub fn put_file(data: &mut [u8], id: u32, forks: [Pairs; 2]) {
+    put32(data, 20, id);
+    data[74..86].copy_from_slice(&pair_bytes(forks[0]));
+    data[86..98].copy_from_slice(&pair_bytes(forks[1]));
+}
+
+/// The bytes of three pairs, as a file record and an extents record have them.
+pub fn pair_bytes(pairs: Pairs) -> [u8; 12] {
+    let mut bytes = [0; 12];
+    for (index, (first_block, block_count)) in pairs.into_iter().enumerate() {
+        put16(&mut bytes, 4 * index, first_block);
+        put16(&mut bytes, 4 * index + 2, block_count);
+    }
+    bytes
 }
 
 /// A thread to a directory.
