@@ -1,17 +1,19 @@
 /*
  * A proved reader of the extents overflow file of an HFS or HFS Plus volume, and of the catalog of an
- * HFS volume.
+ * HFS volume; and from a block of a file to the block of the volume, by both.
  *
  * Any bytes are an image, and nobody has to have checked them first. An image is only read. No call
  * allocates, keeps anything or fails: each answers by a number and a place, and writes every element
  * of `out` and `data`, whatever the answer. `image`, `keys`, `results`, `name`, `work`, `out` and `data`
- * do not overlap, and none is NULL, not even an empty image, an empty name, no keys or no working bytes.
+ * do not overlap, and none is NULL, not even an empty image, an empty name, no keys or no working bytes;
+ * the same goes for the two images and their working bytes that hfs_block takes.
  *
  * hfs_check, hfs_lookup, hfs_lookup_many and hfs_salvage read the extents overflow file of HFS. The calls
  * with hfs_extents_ in their names read that of the edition and the node size that the caller says:
  * HFS_EDITION_HFS with nodes of 512 bytes, or HFS_EDITION_HFS_PLUS with 512, 1,024, 2,048, 4,096, 8,192,
  * 16,384 or 32,768. Anything else is 25, before any other test. The calls with hfs_catalog_ in their
- * names read the catalog of HFS, with nodes of 512 bytes.
+ * names read the catalog of HFS, with nodes of 512 bytes. hfs_block reads the catalog and the extents
+ * overflow file of one HFS volume.
  *
  * A check and the lookups work in bytes that the caller lends, with any contents: one bit for each node
  * of the image, so HFS_WORK_BYTES(len) of them, or HFS_EXTENTS_WORK_BYTES(len, node_size), at most
@@ -55,6 +57,9 @@
  *  14   not seen                                   0, 0
  *  15   fewer results than keys                    0, 0
  *  16   fewer working bytes than the nodes need    0, 0
+ *  17   no record covers the block of the file     0, 0
+ *  18   the volume block is above 65,535           0, 0
+ *  24   under the catalog key stands no file       0, 0
  *  25   an edition, or a node size of it, that     0, 0
  *       is not listed above
  *
@@ -62,7 +67,7 @@
  * at 14 + 76 r in HFS Plus; in a catalog, whose records differ in length, where offset word r says.
  * Levels count from the leaves: leaves are the nodes of level 1, each child's
  * level is one less than its parent's, and the root's is the depth. Of several faults the first in the
- * order of tests is the answer: 25, 11 or 15, 1, 16, then 2 to 10.
+ * order of tests is the answer: 25, 11 or 15, 1, 16, then 2 to 10; of two images the catalog's first.
  */
 #ifndef HFS_BTREE_H
 #define HFS_BTREE_H
@@ -80,6 +85,10 @@
 /* The editions. */
 #define HFS_EDITION_HFS 0
 #define HFS_EDITION_HFS_PLUS 1
+
+/* The images that hfs_block takes. */
+#define HFS_IMAGE_CATALOG 0
+#define HFS_IMAGE_EXTENTS 1
 
 /* A key as one number; numeric order is key order. */
 #define HFS_PACKED_KEY(file, fork, start) \
@@ -236,6 +245,36 @@ void hfs_catalog_lookup(const uint8_t *image, size_t len, uint32_t parent, const
  */
 void hfs_catalog_salvage(const uint8_t *image, size_t len, uint32_t parent, const uint8_t *name,
                          size_t name_len, uint32_t out[5], uint8_t data[102]);
+
+/*
+ * Which block of the volume holds this block of a file's fork? A file's first blocks are found in its
+ * record in the catalog, the later ones in the extents overflow file. The file is asked for by its parent
+ * number and its name, as in hfs_catalog_lookup, the fork by 00 (data) or FF (resource). Fork byte and name
+ * length are judged first, then the whole catalog, then the whole extents image, and only then the block is
+ * looked for. Each image has working bytes of its own; those of the extents image are as they were where
+ * 11 or a fault of the catalog is answered.
+ *
+ * The block is covered by the file's record if it is below the sum of that fork's three block counts. Else
+ * it is covered by the extents record with the highest key not above (file, fork, block), if that has the
+ * same file and fork and its three counts, added up from its start block, go past the block.
+ *
+ * out[0]  0 covered; 12 absent from the catalog; 24 no file; 17 covered by no record; 18 covered, and the
+ *         volume block is above 65,535; else the number of the refusal: 11, or the check's own
+ * out[1]  the image that this concerns, HFS_IMAGE_CATALOG or HFS_IMAGE_EXTENTS: for 0 and 18 that of the
+ *         covering record, for 11, 12 and 24 the catalog, for 17 the extents image, for a check's number
+ *         its own
+ * out[2]  the node: covered, the covering record's; 12, the last node read of the catalog; refused, that
+ *         of the place; else 0
+ * out[3]  the offset: covered, where that record starts in its node; refused, that of the place; else 0
+ * out[4]  covered: the block of the volume; else 0
+ * out[5]  covered: the byte of that image where the covering record's pairs start; else 0
+ * out[6]  covered: how many bytes these are, 12; else 0
+ * data    covered: these bytes, three pairs of first block and block count, big-endian; else zeros
+ */
+void hfs_block(const uint8_t *catalog, size_t catalog_len, uint8_t *catalog_work,
+               size_t catalog_work_len, const uint8_t *extents, size_t extents_len,
+               uint8_t *extents_work, size_t extents_work_len, uint32_t parent, const uint8_t *name,
+               size_t name_len, uint8_t fork, uint16_t block, uint32_t out[7], uint8_t data[12]);
 
 #ifdef __cplusplus
 }

@@ -1,26 +1,14 @@
--- What the export writes of block mapping.
+-- What the export writes of block mapping beside its numbers.
 -- Assumes nothing.
 use mathlib.Core.Path.{_≡_}
-use mathlib.Core.List.{List, [], _∷_}
+use mathlib.Core.List.{List}
 use Prim.Native.Nat.{ℕ, _<_}
 use Rattle.reader.specs.Reader.{emptyPart}
-use Rattle.coverings.specs.declared.answers.Source.{Source}
-use Rattle.coverings.specs.declared.answers.Source.the-variants.{Catalog, Extents}
 use Rattle.coverings.specs.declared.answers.Covering.{Covering}
 use Rattle.coverings.specs.declared.answers.Mapping.{Mapping}
 use Rattle.coverings.specs.declared.answers.Mapping.the-variants.{Mapped, Refused}
 use Rattle.blocks.specs.Demands.{imageOf}
 use Rattle.replies.specs.Written.{dataBytes}
-
--- "image (0 catalog, 1 extents)"
-abbrev pub sourceNumber : Source → ℕ
-sourceNumber Catalog = 0
-sourceNumber Extents = 1
-
--- "number, image .., node, offset, volume block, byte where the part starts in that image, its length (12 or 0)"
-abbrev pub blockNumbers : Mapping → List ℕ
-blockNumbers (Mapped c v) = 0 ∷ sourceNumber (c .source) ∷ c .place .node ∷ c .place .offset ∷ v ∷ c .start ∷ 12 ∷ []
-blockNumbers (Refused source number place) = number ∷ sourceNumber source ∷ place .node ∷ place .offset ∷ 0 ∷ 0 ∷ 0 ∷ []
 
 -- "the covering record's 12 bytes of pairs", and zeros for any answer but 0
 abbrev pub coveringBytes : List ℕ → List ℕ → Mapping → List ℕ

@@ -32,12 +32,12 @@ use Rattle.coverings.specs.declared.answers.Source.the-variants.{Catalog}
 use Rattle.coverings.specs.declared.answers.Covering.{Covering}
 use Rattle.coverings.specs.declared.answers.Mapping.{Mapping}
 use Rattle.coverings.specs.declared.answers.Mapping.the-variants.{Refused}
-use Rattle.coverings.specs.Pairs.{blockCount, countedOff}
+use Rattle.extent_data.specs.Pairs.{blockCount, countedOff}
 use Rattle.coverings.specs.Answers.{mappedTo}
 use Rattle.coverings.specs.Covered.{Covers, decCovers, firstExtents, firstCovering, laterCovering, noFile, uncovered, byFloor, inFile, inEntry}
 use Rattle.blocks.specs.Blocks.{byAnswer}
 use Rattle.blocks.specs.Demands.{IsFile, First, Later, ByFirst, ByLater, Given}
-use Rattle.coverings.proofs.Counted.{counted-gives, gives-inside, gives-counted}
+use Rattle.extent_data.proofs.Counted.{counted-gives, gives-inside, gives-counted}
 use Rattle.coverings.proofs.Order.{after-sound, by-floor, file-first, file-later}
 
 module _ (cat ext : List ℕ) (k : Key) (fork block : ℕ) where

@@ -26,7 +26,7 @@ use Rattle.coverings.specs.declared.answers.Source.the-variants.{Catalog, Exten
 use Rattle.coverings.specs.declared.answers.Covering.{Covering}
 use Rattle.coverings.specs.declared.answers.Mapping.{Mapping}
 use Rattle.coverings.specs.declared.answers.Mapping.the-variants.{Mapped, Refused}
-use Rattle.coverings.specs.Pairs.{Gives}
+use Rattle.extent_data.specs.Pairs.{Gives}
 use Rattle.coverings.specs.Answers.{lastBlock}
 use Rattle.coverings.specs.Covered.{firstExtents, refusedBy, noFile, uncovered, firstCovering, laterCovering}
 use Rattle.blocks.specs.Blocks.{Asked}

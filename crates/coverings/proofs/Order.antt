@@ -20,7 +20,7 @@ use Rattle.extents.specs.Floor.{floored}
 use Rattle.extents.proofs.Highest.{floored-refused}
 use Rattle.coverings.specs.declared.answers.Source.the-variants.{Extents}
 use Rattle.coverings.specs.declared.answers.Mapping.{Mapping}
-use Rattle.coverings.specs.Pairs.{blockCount, countedOff}
+use Rattle.extent_data.specs.Pairs.{blockCount, countedOff}
 use Rattle.coverings.specs.Answers.{mappedTo}
 use Rattle.coverings.specs.Covered.{firstExtents, firstStart, firstCovering, refusedBy, afterExtents, byFloor, inExtents, inFile, inEntry}
 

@@ -25,7 +25,7 @@ use Rattle.coverings.specs.declared.answers.Source.the-variants.{Catalog
 use Rattle.coverings.specs.declared.answers.Covering.{Covering}
 use Rattle.coverings.specs.declared.answers.Mapping.{Mapping}
 use Rattle.coverings.specs.declared.answers.Mapping.the-variants.{Refused}
-use Rattle.coverings.specs.Pairs.{blockCount, countedOff}
+use Rattle.extent_data.specs.Pairs.{blockCount, countedOff}
 use Rattle.coverings.specs.Answers.{mappedTo}
 
 -- "that fork's three first counts in the file record": the pairs of the data fork, 00, or of the resource fork, FF

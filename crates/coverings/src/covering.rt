@@ -9,12 +9,12 @@ use super::answers::Covering;
 use super::answers::Mapping;
 use super::answers::Source;
 use super::answers::mapped_to;
-use super::pairs::block_count;
-use super::pairs::counted_off;
 use btree::Place;
 use catalog_entries::Entry;
 use catalog_entries::File;
 use extent_data::ExtentData;
+use extent_data::pairs::block_count;
+use extent_data::pairs::counted_off;
 use extents::floors::ExtentRecord;
 use extents::floors::Floor;
 

@@ -1,4 +1,6 @@
 // The data of an extents record of HFS, three pairs of first block and block count: those of a leaf record of the extents overflow file, and the first ones of a fork in the catalog.
+pub mod pairs;
+
 ghost use mathlib.Core.Path.{_≡_};
 ghost use Prim.Native.Nat.{_<_};
 ghost use Rattle.extent_data.specs.Data.{extentDataAt};

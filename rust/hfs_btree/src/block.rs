@@ -21,7 +21,7 @@ pub enum Answer {
     NotAFile,
     /// 17: neither the file record nor an extents record covers the block.
     NotCovered,
-    /// 18: the covering pair ends above the last block that a volume can have, 65,535.
+    /// 18: the block that the covering pair gives is above the last that a volume can have, 65,535.
     AboveLastBlock,
     /// 11 for the asked key, or the number of the check of the image that is concerned.
     Refused {

@@ -1,6 +1,7 @@
 -- `hfs_block` meets its contract. Assumes nothing.
 use mathlib.Core.Path.{ap, _∙_}
-use Rattle.block_replies.specs.Written.{blockNumbers, coveringBytes}
+use Rattle.coverings.specs.Answers.{blockNumbers}
+use Rattle.block_replies.specs.Written.{coveringBytes}
 use borrow.Author.Needs.{needs}
 use Rattle.capi.proofs.hfs_block.Statement.{statement}
 use Rattle.capi.proofs.hfs_block.Tie as tie

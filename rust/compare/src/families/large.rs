@@ -36,12 +36,12 @@ fn largest_of_hfs(seed: u64) -> Vec<(Built, usize)> {
     let only_map_nodes = build(&Plan { map_nodes: 65_535, ..Plan::tidy(9, &[]) });
     let deepest = build(&Plan::untidy(seed, &[1, 2, 9, 40, 200, 700, 1_400, 2_800]));
     vec![
-        (samples::largest(), 12),
-        (samples::largest_of(6_000), 100),
-        (samples::three_level_large(), 100),
-        (samples::needed_map_nodes(), 100),
-        (deepest, 100),
-        (only_map_nodes, 4),
+        (samples::largest(), 40),
+        (samples::largest_of(6_000), 300),
+        (samples::three_level_large(), 300),
+        (samples::needed_map_nodes(), 300),
+        (deepest, 300),
+        (only_map_nodes, 10),
     ]
 }
 
@@ -52,7 +52,7 @@ fn largest_of_plus(format: Format, seed: u64) -> Vec<(Built, usize)> {
     let untidy = Plan { free_nodes, ..Plan::untidy_in(format, seed, &half_free) };
     let map_nodes = LONG / format.node_size - 1;
     let only_map_nodes = Plan { map_nodes, ..Plan::tidy_in(format, 9, &[]) };
-    vec![(build(&full), 8), (build(&untidy), 16), (build(&only_map_nodes), 4)]
+    vec![(build(&full), 20), (build(&untidy), 40), (build(&only_map_nodes), 10)]
 }
 
 /// The levels over so many leaves, root first, each with the fewest nodes.
@@ -87,13 +87,13 @@ fn spoil(comparison: &mut Comparison, rng: &mut Rng, built: &Built) {
     let asked = keys::with_neighbours(built);
     for number in 1..=10 {
         let known = by_number(built, number);
-        for _ in 0..6 {
+        for _ in 0..12 {
             let mut image = built.image.clone();
             known[rng.index(known.len())].apply(&mut image);
             comparison.ask(&image, keys::some(rng, &asked, 1));
         }
     }
-    for _ in 0..60 {
+    for _ in 0..120 {
         let mut image = built.image.clone();
         for _ in 0..=rng.index(3) {
             change_a_field(rng, built.format, &mut image);

@@ -6,7 +6,7 @@ use lib.ListN.{length}
 use Rattle.extent_data.specs.declared.ExtentData.{ExtentData}
 use Rattle.catalog.specs.Reader.{dataPart}
 use Rattle.coverings.specs.declared.answers.Source.the-variants.{Catalog}
-use Rattle.coverings.specs.Pairs.{blockCount, countedOff}
+use Rattle.extent_data.specs.Pairs.{blockCount, countedOff}
 use Rattle.coverings.specs.Answers.{mappedTo}
 use Rattle.coverings.specs.Covered.{firstExtents, firstCovering, afterExtents}
 use Rattle.coverings.proofs.Order.{file-first, file-later, first-small}

@@ -12,10 +12,10 @@ pub fn largest(comparison: &mut CatalogComparison, seed: u64) {
     let mut rng = Rng::new(seed);
     let deepest = build(&CatalogPlan::untidy(seed, &[1, 2, 9, 40, 200, 700, 1_400, 2_800]));
     let sound = [
-        (samples::largest(), 6),
-        (samples::largest_mixed(), 6),
-        (samples::largest_mixed_of(6_000), 50),
-        (deepest, 50),
+        (samples::largest(), 12),
+        (samples::largest_mixed(), 12),
+        (samples::largest_mixed_of(6_000), 100),
+        (deepest, 100),
     ];
     for (built, count) in sound {
         comparison.ask(&built.image, keys::near_some(&mut rng, &built, count));

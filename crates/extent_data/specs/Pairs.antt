@@ -5,7 +5,13 @@ use mathlib.Core.Logic.{_⊎_}
 use Prim.Native.Nat.{ℕ, _+_, _-_, _≤_, _<_}
 use native.Mathlib.Decide.{decLt}
 use Rattle.btree.specs.Decide.{cond}
 use Rattle.extent_data.specs.declared.ExtentData.{ExtentData}
+
+-- a pair of so many blocks, after those of the pairs before it, has block n, and v is "the first block of its pair plus the blocks of that pair before it"
+pub record InPair (before first count n v : ℕ) : Type 0 where
+  pub from : before ≤ n
+  pub past : n < before + count
+  pub isBlock : v + before ≡ first + n
 
 module _ (d : ExtentData) where
   -- "the sum of that fork's three first counts", "its three counts, added up"
@@ -19,13 +25,7 @@ module _ (d : ExtentData) where
       (cond (decLt (n - d .count1) (d .count2)) (d .block2 + (n - d .count1))
       (d .block3 + (n - d .count1 - d .count2)))
 
-  -- the same in words: a pair of so many blocks, after those of the pairs before it, has block n, and v is its first block plus the blocks of it before n
-  pub record InPair (before first count n v : ℕ) : Type 0 where
-    pub from : before ≤ n
-    pub past : n < before + count
-    pub isBlock : v + before ≡ first + n
-
-  -- one of the three pairs gives v for block n
+  -- the same in words: one of the three pairs gives v for block n
   abbrev pub Gives : ℕ → ℕ → Type 0
   Gives n v =
       InPair 0 (d .block1) (d .count1) n v

@@ -6,8 +6,8 @@ use Prim.Native.Nat.{ℕ, _+_, _-_, _≤_, _<_}
 use native.Mathlib.Omega.{arith}
 use native.Mathlib.Decide.{decLt}
 use Rattle.btree.proofs.Decisions.{cond-yes, cond-no}
 use Rattle.extent_data.specs.declared.ExtentData.{ExtentData}
-use Rattle.coverings.specs.Pairs.{blockCount, countedOff, InPair, Gives}
+use Rattle.extent_data.specs.Pairs.{blockCount, countedOff, InPair, Gives}
 
 module _ (d : ExtentData) (n : ℕ) where
   pub in-first : n < d .count1 → countedOff d n ≡ d .block1 + n
@@ -37,11 +37,11 @@ module _ (d : ExtentData) (n : ℕ) where
     pub gives-counted : Gives d n v → v ≡ countedOff d n
     gives-counted = ⊎-elim first (⊎-elim second third)
       where
-        first : InPair d 0 (d .block1) (d .count1) n v → v ≡ countedOff d n
+        first : InPair 0 (d .block1) (d .count1) n v → v ≡ countedOff d n
         first p = let b = p .past in let i = p .isBlock in let e = in-first (omega arith) in omega arith
 
-        second : InPair d (d .count1) (d .block2) (d .count2) n v → v ≡ countedOff d n
+        second : InPair (d .count1) (d .block2) (d .count2) n v → v ≡ countedOff d n
         second p = let a = p .from in let b = p .past in let i = p .isBlock in let e = in-second a (omega arith) in omega arith
 
-        third : InPair d (d .count1 + d .count2) (d .block3) (d .count3) n v → v ≡ countedOff d n
+        third : InPair (d .count1 + d .count2) (d .block3) (d .count3) n v → v ≡ countedOff d n
         third p = let a = p .from in let i = p .isBlock in let e = in-third (omega arith) (omega arith) in omega arith

@@ -1,10 +1,10 @@
 -- `pairs::counted_off` meets its contract. Assumes nothing.
 use mathlib.Core.Path.{sym}
 use native.Mathlib.Omega.{arith}
-use Rattle.coverings.proofs.Counted.{in-first, in-second, in-third}
+use Rattle.extent_data.proofs.Counted.{in-first, in-second, in-third}
 use borrow.Author.Needs.{needs}
-use Rattle.coverings.proofs.pairs.counted_off.Statement.{statement}
-use Rattle.coverings.proofs.pairs.counted_off.Tie as tie
+use Rattle.extent_data.proofs.pairs.counted_off.Statement.{statement}
+use Rattle.extent_data.proofs.pairs.counted_off.Tie as tie
 
 cast-count1 : tie.Need-cast-count1
 cast-count1 c = search needs

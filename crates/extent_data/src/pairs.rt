@@ -1,8 +1,8 @@
-// The three pairs of first block and block count of an extents record. Sums are of 64 bits, so that none wraps.
+// The three pairs of an extents record, counted off. Sums are of 64 bits, so that none wraps.
 ghost use mathlib.Core.Path.{_≡_};
 ghost use Prim.Native.Nat.{_<_};
-ghost use Rattle.coverings.specs.Pairs.{blockCount, countedOff};
-use extent_data::ExtentData;
+ghost use Rattle.extent_data.specs.Pairs.{blockCount, countedOff};
+use super::ExtentData;
 
 // How many blocks they are.
 pub fn block_count(extents: ExtentData) -> u64
