@@ -12,11 +12,11 @@ use Rattle.btree.specs.declared.Answer.the-variants.{Found, Absent, Refu
 use Rattle.btree.specs.declared.Place.{Place}
 use Rattle.btree.specs.Places.{recordPlace}
 use Rattle.btree.specs.Lists.{_∈_, lastOf, fromOption}
-use Rattle.btree.specs.Tree.{View, leavesAt}
+use Rattle.btree.specs.Tree.{View}
 use Rattle.btree.specs.Numbers.{lookupReply}
 use Rattle.btree.specs.Work.{soundNumbers}
 use Rattle.btree.specs.Search.{Highest, highestOf, pathFrom, pathAt, inLeaf, inIndex, floorFrom, floorAt, floorOf}
-use Rattle.btree.proofs.Paths.{last-push, last-pop, highest-some, highest-none, path-below}
+use Rattle.btree.proofs.Paths.{last-push, last-pop, highest-some, highest-none}
 use Rattle.btree.proofs.Answers.{answered}
 
 module _ (v : View) (k : ℕ) where
@@ -63,21 +63,7 @@ module _ (v : View) (k : ℕ) where
   floor-told h a e = subst (Says h (pathAt v h k)) e (floor-says h)
 
 module _ (v : View) where
-  open View v using (depth, root)
-
-  -- the record with the highest key not above k of one of these nodes, that starts at p
-  pub record FloorAt (k : ℕ) (p : Place) (ns : List ℕ) : Type 0 where
-    pub node : ℕ
-    pub number : ℕ
-    pub among : node ∈ ns
-    pub highest : Highest v node k number
-    pub starts : recordPlace v node number ≡ p
-
-  pub floor-leaf : (h k : ℕ) (p : Place) → floorAt v h k ≡ Found p → FloorAt k p (leavesAt v h)
-  floor-leaf zero k p e = absurd (let z : _≡_ {A = ℕ} 0 1 = cc in omega arith)
-  floor-leaf (suc h) k p e =
-      let (w, (m, i, l, x, q)) = floor-told v k (suc h) (Found p) e in
-      record { node = m; number = i; among = path-below v h k root m w l; highest = x; starts = q }
+  open View v using (depth)
 
   -- the descent never refuses
   pub floor-answers : (k a : ℕ) (b : Place) → floorOf v k ≡ Refused a b → ⊥
