@@ -17,7 +17,8 @@
  *
  * A check and the lookups work in bytes that the caller lends, with any contents: one bit for each node
  * of the image, so HFS_WORK_BYTES(len) of them, or HFS_EXTENTS_WORK_BYTES(len, node_size), at most
- * HFS_MOST_WORK_BYTES for any image that is not refused by its length. What a call leaves there:
+ * HFS_MOST_WORK_BYTES for any image that is not refused by its length. What a call leaves there
+ * (hfs_block, which has two images, says it below):
  *
  *  25, 11, 15, 1, 16  all bytes as they were
  *  2 to 10            the needed bytes zero
@@ -251,8 +252,10 @@ void hfs_catalog_salvage(const uint8_t *image, size_t len, uint32_t parent, cons
  * record in the catalog, the later ones in the extents overflow file. The file is asked for by its parent
  * number and its name, as in hfs_catalog_lookup, the fork by 00 (data) or FF (resource). Fork byte and name
  * length are judged first, then the whole catalog, then the whole extents image, and only then the block is
- * looked for. Each image has working bytes of its own; those of the extents image are as they were where
- * 11 or a fault of the catalog is answered.
+ * looked for. Each image has working bytes of its own, in which its own check leaves what hfs_check would:
+ * those of the catalog are as they were for 11, and show the nodes in use wherever the catalog is sound,
+ * whatever is answered then; those of the extents image are as they were for 11 and for any fault of the
+ * catalog, and show the nodes in use for 0, 12, 17, 18 and 24.
  *
  * The block is covered by the file's record if it is below the sum of that fork's three block counts. Else
  * it is covered by the extents record with the highest key not above (file, fork, block), if that has the

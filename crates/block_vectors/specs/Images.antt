@@ -13,7 +13,7 @@ threePairs block1 count1 block2 count2 block3 count3 = be16 block1 ++ be16 count
 abbrev pub twoForks : List ℕ
 twoForks = put 766 (threePairs 50 3 60 0 65534 3) cartridge
 
--- L1 whose record, at 14 of node 1, is another file's: its key starts at 526 of the image, "length 07, fork, file number (4), start block (2)"
+-- L1 whose record, at 14 of node 1, is another file's: its key starts at 526 of the image, "length 07, fork .., file number (4), start block (2)"
 abbrev pub otherFile : List ℕ
 otherFile = put 528 (be32 15) L1
 

@@ -84,7 +84,7 @@ module _ (cat ext : List ℕ) (k : Key) (fork block : ℕ) where
 
   -- of two sound images
   pub record SoundBlock (r : Mapping) : Type 0 where
-    -- 0 with the volume block v exactly when the fork's extents give v for the block
+    -- 0 with the volume block v exactly when the fork's extents give v for the block, and v is one that a volume can have
     pub mapped : (c : Covering) (v : ℕ) → (r ≡ Mapped c v) ↔ (Given c v × (v ≤ lastBlock))
     -- "A volume block above 65,535 is 18", of the covering image
     pub above : (source : Source) → (r ≡ Refused source 18 imageStart) ↔ ((c : Covering) × (v : ℕ) × (Given c v) × (lastBlock < v) × (c .source ≡ source))
@@ -103,6 +103,6 @@ module _ (cat ext : List ℕ) (k : Key) (fork block : ℕ) where
     pub ofCatalog : Asked k fork → catalog.checked cat catLent .number ≢ 0 → r ≡ refusedBy Catalog (catalog.checked cat catLent)
     pub ofExtents : Asked k fork → catalog.checked cat catLent .number ≡ 0 → extents.checked ext extLent .number ≢ 0 → r ≡ refusedBy Extents (extents.checked ext extLent)
     pub ofSound : Asked k fork → catalog.Sound cat → catalog.needed cat ≤ catLent → extents.Sound ext → extents.needed ext ≤ extLent → SoundBlock r
-    -- the image that holds the covering record has its 12 bytes
+    -- the image that holds the covering record has its 12 bytes, and is not longer than an image may be
     pub inside : (c : Covering) (v : ℕ) → r ≡ Mapped c v → c .start + 12 ≤ length (imageOf cat ext (c .source))
     pub small : (c : Covering) (v : ℕ) → r ≡ Mapped c v → c .start < 33554432
