@@ -60,7 +60,7 @@ fn offsets_right(form: Form, image: &[u8], node: u32, c: u32, size: u32) -> bool
 }
 
 // The length and the fork byte of the key at a byte of the image.
-fn key_lawful(form: Form, image: &[u8], at: usize) -> bool
+pub fn key_lawful(form: Form, image: &[u8], at: usize) -> bool
     requires { ⌜ (form .tree ≡ 0) × (at + 12 ≤ length (now image)) ⌝ }
     ensures { λ r. ⌜ Tells r (KeyLaw form (now (image .entry)) at) ⌝ }
 {

@@ -1,0 +1,3 @@
+pub mod LeafNodes
+pub mod IndexNodes
+pub mod Levels

@@ -1,0 +1,116 @@
+use mathlib.Core.Path.{_≡_, refl, sym, ap, _∙_}
+use Prim.Native.Nat.{ℕ, _+_, _-_, _*_, _≤_}
+use native.Mathlib.Omega.{arith}
+use lib.ListN.{length}
+use Rattle.put.specs.Put.{put}
+use Rattle.put.proofs.Laws.{turn, put-none}
+use Rattle.level_writer.specs.Parts.{leavesFrom}
+use Rattle.level_writer.proofs.LeafNodes.{leaves-on, leaves-end, leaves-start, leaves-long, part-fits}
+use borrow.Author.Needs.{needs}
+use Rattle.level_writer.proofs.leaves.Statement.{statement}
+use Rattle.level_writer.proofs.leaves.Tie as tie
+use Rattle.level_writer.proofs.leaves.Reads as reads
+use Rattle.level_writer.proofs.leaves.Lts as lts
+use Rattle.node_writer.proofs.back_link.Reads as back-link-reads
+use Rattle.level_writer.proofs.end_of.Reads as end-of-reads
+use Rattle.node_writer.proofs.leaf_node.Reads as leaf-node-reads
+use Rattle.node_writer.proofs.link.Reads as link-reads
+
+abbrev Inv-loop : tie.InvT-loop
+Inv-loop t₀ at row s n a₀ k₀ t a k =
+    (k ≤ n) × (put t a (leavesFrom row s k (n - k)) ≡ put t₀ at (leavesFrom row s 0 n)) × (a ≡ at + 512 * k) × (length t ≡ length t₀)
+
+abbrev μ-loop : tie.MeasureT-loop
+μ-loop t₀ at row s n a₀ k₀ t a k = n - k
+
+loop-holds : tie.Need-loop-holds Inv-loop μ-loop
+loop-holds c = (search needs, rw leaves-start, search needs, refl)
+
+cast-from : tie.Need-cast-from Inv-loop μ-loop
+cast-from c = search needs
+
+mul-from : tie.Need-mul-from Inv-loop μ-loop
+mul-from c = search needs
+
+end-of-requires : tie.Need-end-of-requires Inv-loop μ-loop
+end-of-requires c κs = search needs
+
+add-link : tie.Need-add-link Inv-loop μ-loop
+add-link c = search needs
+
+link-requires : tie.Need-link-requires Inv-loop μ-loop
+link-requires c κs = search needs
+
+back-link-requires : tie.Need-back-link-requires Inv-loop μ-loop
+back-link-requires c κs = search needs
+
+sub-leaf-node : tie.Need-sub-leaf-node Inv-loop μ-loop
+sub-leaf-node c = search needs
+
+part-leaf-node-start : tie.Need-part-leaf-node-start Inv-loop μ-loop
+part-leaf-node-start c = search needs
+
+part-leaf-node-end : tie.Need-part-leaf-node-end Inv-loop μ-loop
+part-leaf-node-end c = search needs
+
+leaf-node-requires : tie.Need-leaf-node-requires Inv-loop μ-loop
+leaf-node-requires c κs =
+    let l = c .before .before .before .before .before .before .loop in
+    let s = c .before .before .before .before .before .before .before .before .before in
+    let f = part-fits (s .args .row .now) (l .k) (c .before .before .before .before .end-of .result) (s .pre .whole) (c .before .before .before .before .end-of .ensures .2) in
+    (f .0, f .1, omega (arith, s .pre .room, l .inv, c .before .before .before .before .before .loop-test .taken))
+
+add-k : tie.Need-add-k Inv-loop μ-loop
+add-k c = search needs
+
+loop-less : tie.Need-loop-less Inv-loop μ-loop
+loop-less c = search needs
+
+loop-again : tie.Need-loop-again Inv-loop μ-loop
+loop-again c =
+    let l = c .before .before .before .before .before .before .before .before .before .loop in
+    let s = c .before .before .before .before .before .before .before .before .before .before .before .before in (
+      search needs,
+      turn _ (c .before .before .leaf-node .ensures)
+          ∙ ap (put (l .t) (l .a)) (leaves-on (s .args .row .now) (s .args .s) (s .args .n) (l .k) (c .before .before .before .before .before .before .before .end-of .result) (c .before .before .before .before .before .before .link .result) (c .before .before .before .before .before .back-link .result)
+          (s .pre .whole) (s .pre .some) (s .pre .nodes) (c .before .before .before .before .before .before .before .before .loop-test .taken) (c .before .before .before .before .before .before .before .end-of .ensures .2) (c .before .before .before .before .before .before .link .ensures) (c .before .before .before .before .before .back-link .ensures))
+          ∙ l .inv .1,
+      search needs,
+      c .before .before .leaf-node .kept .0 ∙ l .inv .3,
+    )
+
+same-length : tie.Need-same-length Inv-loop μ-loop
+same-length c = c .before .loop .inv .3
+
+returns : tie.Need-returns Inv-loop μ-loop
+returns c =
+    let l = c .before .loop in
+    let s = c .before .before .before .before in
+    record {
+      bytes = sym (put-none (l .t) (l .a)) ∙ ap (put (l .t) (l .a)) (sym (leaves-end _ _ _ (l .k) (c .loop-test .left))) ∙ l .inv .1;
+      next = omega arith;
+      long = leaves-long _ _ _ (s .pre .whole);
+    }
+
+pub leaves-spec : {M : Type 1} → statement M
+leaves-spec =
+    tie.close
+    (tie.spec
+    Inv-loop
+    μ-loop
+    loop-holds
+    cast-from
+    mul-from
+    end-of-requires
+    add-link
+    link-requires
+    back-link-requires
+    sub-leaf-node
+    part-leaf-node-start
+    part-leaf-node-end
+    leaf-node-requires
+    add-k
+    loop-less
+    loop-again
+    same-length
+    returns)

@@ -1,0 +1,51 @@
+use mathlib.Core.Path.{ap}
+use mathlib.Core.List.{_++_}
+use Rattle.put.specs.Put.{be16, be32}
+use Rattle.put.proofs.Laws.{then, same}
+use Rattle.laid.specs.Laid.{described}
+use Rattle.map_writer.specs.Parts.{front}
+use borrow.Author.Needs.{needs}
+use Rattle.map_writer.proofs.header_front.Statement.{statement}
+use Rattle.map_writer.proofs.header_front.Tie as tie
+use Rattle.map_writer.proofs.header_front.Reads as reads
+use Rattle.map_writer.proofs.header_front.Lts as lts
+use Rattle.node_writer.proofs.describe.Reads as describe-reads
+use Rattle.node_writer.proofs.link.Reads as link-reads
+use Rattle.put.proofs.half.Reads as half-reads
+use Rattle.put.proofs.word.Reads as word-reads
+
+link-requires : tie.Need-link-requires
+link-requires c κs = search needs
+
+describe-requires : tie.Need-describe-requires
+describe-requires c κs = search needs
+
+half-requires : tie.Need-half-requires
+half-requires c κs = search needs
+
+word-requires : tie.Need-word-requires
+word-requires c κs = search needs
+
+word-requires-2 : tie.Need-word-requires-2
+word-requires-2 c κs = search needs
+
+same-length : tie.Need-same-length
+same-length c = search needs
+
+returns : tie.Need-returns
+unfolding front
+returns c =
+    same (ap (λ f. described f 0 1 0 3 ++ (be16 (c .before .before .before .before .before .before .before .before .before .before .before .before .before .before .before .before .before .before .args .depth) ++ (be32 (c .before .before .before .before .before .before .before .before .before .before .before .before .before .before .before .before .before .before .args .root) ++ be32 (c .before .before .before .before .before .before .before .before .before .before .before .before .before .before .before .before .before .before .args .records)))) (c .before .before .before .before .before .before .before .before .before .before .before .before .before .before .before .before .link .ensures))
+    (then (c .before .before .before .before .before .before .before .before .before .before .before .before .before .before .describe .ensures) (then (c .before .before .before .before .before .before .before .before .before .before .half .ensures) (then (c .before .before .before .before .before .before .word .ensures) (c .before .before .word2 .ensures))))
+
+pub header-front-spec : {M : Type 1} → statement M
+header-front-spec =
+    tie.close
+    (tie.spec
+    link-requires
+    describe-requires
+    half-requires
+    word-requires
+    word-requires-2
+    same-length
+    returns)

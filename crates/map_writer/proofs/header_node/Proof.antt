@@ -1,0 +1,52 @@
+use Rattle.put.proofs.Laws.{then, same}
+use Rattle.map_writer.proofs.Steps.{header-is}
+use borrow.Author.Needs.{needs}
+use Rattle.map_writer.proofs.header_node.Statement.{statement}
+use Rattle.map_writer.proofs.header_node.Tie as tie
+use Rattle.map_writer.proofs.header_node.Reads as reads
+use Rattle.map_writer.proofs.header_node.Lts as lts
+use Rattle.map_writer.proofs.header_back.Reads as header-back-reads
+use Rattle.map_writer.proofs.header_front.Reads as header-front-reads
+use Rattle.map_writer.proofs.header_words.Reads as header-words-reads
+use Rattle.map_writer.proofs.map_part.Reads as map-part-reads
+use Rattle.put.proofs.zeros.Reads as zeros-reads
+
+header-front-requires : tie.Need-header-front-requires
+header-front-requires c κs = search needs
+
+sub-header-back : tie.Need-sub-header-back
+sub-header-back c = search needs
+
+header-back-requires : tie.Need-header-back-requires
+header-back-requires c κs = search needs
+
+zeros-requires : tie.Need-zeros-requires
+zeros-requires c κs = search needs
+
+map-part-requires : tie.Need-map-part-requires
+map-part-requires c κs = search needs
+
+header-words-requires : tie.Need-header-words-requires
+header-words-requires c κs = search needs
+
+same-length : tie.Need-same-length
+same-length c = search needs
+
+returns : tie.Need-returns
+returns c =
+    let h = c .before .before .before .before .before .before .before .before .before .before .before .before .before .before .before .before .before .before .before .before .before .pre .1 in
+    same (header-is _ _ _ _ _ _ _ _ (h .isRoot) (h .isFirst) (h .isLast) (h .isUsed))
+    (then (c .before .before .before .before .before .before .before .before .before .before .before .before .before .before .before .before .before .before .header-front .ensures) (then (c .before .before .before .before .before .before .before .before .before .before .before .before .before .before .header-back .ensures) (then (c .before .before .before .before .before .before .before .before .before .before .zeros .ensures) (then (c .before .before .before .before .before .before .map-part .ensures) (c .before .before .header-words .ensures)))))
+
+pub header-node-spec : {M : Type 1} → statement M
+header-node-spec =
+    tie.close
+    (tie.spec
+    header-front-requires
+    sub-header-back
+    header-back-requires
+    zeros-requires
+    map-part-requires
+    header-words-requires
+    same-length
+    returns)

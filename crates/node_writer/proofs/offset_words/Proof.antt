@@ -1,0 +1,78 @@
+use mathlib.Core.Path.{_≡_, refl, sym, ap, _∙_}
+use Prim.Native.Nat.{ℕ, _+_, _-_, _*_, _≤_}
+use native.Mathlib.Omega.{arith}
+use lib.ListN.{length}
+use mathlib.Core.List.{_++_}
+use Rattle.put.specs.Put.{put, be16}
+use Rattle.put.proofs.Laws.{turn, last}
+use Rattle.laid.specs.Laid.{offsets}
+use Rattle.node_writer.proofs.Steps.{offsets-on, offsets-end, offsets-long, less-one}
+use borrow.Author.Needs.{needs}
+use Rattle.node_writer.proofs.offset_words.Statement.{statement}
+use Rattle.node_writer.proofs.offset_words.Tie as tie
+use Rattle.node_writer.proofs.offset_words.Reads as reads
+use Rattle.node_writer.proofs.offset_words.Lts as lts
+use Rattle.put.proofs.half.Reads as half-reads
+
+abbrev Inv-loop : tie.InvT-loop
+Inv-loop t₀ at size c end a₀ k₀ w₀ t a k w =
+    (k ≤ c) × (put t a (offsets size k) ≡ put t₀ at (offsets size c)) × (a + 2 * k ≡ at + 2 * c) × (length t ≡ length t₀) × (w ≡ 14 + k * size)
+
+abbrev μ-loop : tie.MeasureT-loop
+μ-loop t₀ at size c end a₀ k₀ w₀ t a k w = k
+
+loop-holds : tie.Need-loop-holds Inv-loop μ-loop
+loop-holds c = (search needs, refl, refl, refl, search needs)
+
+half-requires : tie.Need-half-requires Inv-loop μ-loop
+half-requires c κs = search needs
+
+sub-w : tie.Need-sub-w Inv-loop μ-loop
+sub-w c =
+    let l = c .before .before .before .before .before .loop in
+    omega (arith, less-one (l .k) (c .before .before .before .before .before .before .before .args .size) (c .before .before .before .before .loop-test .taken), l .inv .4)
+
+sub-k : tie.Need-sub-k Inv-loop μ-loop
+sub-k c = search needs
+
+loop-less : tie.Need-loop-less Inv-loop μ-loop
+loop-less c = search needs
+
+loop-again : tie.Need-loop-again Inv-loop μ-loop
+loop-again c =
+    let l = c .before .before .before .before .before .loop in
+    let g = c .before .before .before .before .loop-test .taken in (
+      search needs,
+      turn (offsets (c .before .before .before .before .before .before .before .args .size) (l .k - 1)) (c .before .before .half .ensures)
+          ∙ ap (put (l .t) (l .a)) (ap (λ x. be16 x ++ offsets (c .before .before .before .before .before .before .before .args .size) (l .k - 1)) (l .inv .4) ∙ sym (offsets-on (c .before .before .before .before .before .before .before .args .size) (l .k) g)) ∙ l .inv .1,
+      search needs,
+      c .before .before .half .kept .0 ∙ l .inv .3,
+      omega (arith, less-one (l .k) (c .before .before .before .before .before .before .before .args .size) g, l .inv .4),
+    )
+
+half-requires-2 : tie.Need-half-requires-2 Inv-loop μ-loop
+half-requires-2 c κs = search needs
+
+same-length : tie.Need-same-length Inv-loop μ-loop
+same-length c = search needs
+
+returns : tie.Need-returns Inv-loop μ-loop
+returns c =
+    let l = c .before .before .before .before .before .loop in
+    last (ap (put (l .t) (l .a)) (sym (offsets-end _ (l .k) (c .before .before .before .before .loop-test .left))) ∙ l .inv .1) (omega arith) (offsets-long _ _) (c .before .before .half2 .ensures)
+
+pub offset-words-spec : {M : Type 1} → statement M
+offset-words-spec =
+    tie.close
+    (tie.spec
+    Inv-loop
+    μ-loop
+    loop-holds
+    half-requires
+    sub-w
+    sub-k
+    loop-less
+    loop-again
+    half-requires-2
+    same-length
+    returns)

@@ -1,0 +1,4 @@
+pub mod Planned
+pub mod Fronts
+pub mod Upper
+pub mod Assembled
