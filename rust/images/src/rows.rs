@@ -31,12 +31,20 @@ pub enum Spread {
     AcrossForks,
     /// The first block and the last one of each fork of file after file.
     ForkEnds,
+    /// From the lowest there is to the highest, as far apart as they can be.
+    Evenly,
     /// Near to each other or far apart, as chance has it.
     Random,
 }
 
-pub const SPREADS: [Spread; 5] =
-    [Spread::FromLowest, Spread::ToHighest, Spread::AcrossForks, Spread::ForkEnds, Spread::Random];
+pub const SPREADS: [Spread; 6] = [
+    Spread::FromLowest,
+    Spread::ToHighest,
+    Spread::AcrossForks,
+    Spread::ForkEnds,
+    Spread::Evenly,
+    Spread::Random,
+];
 
 /// Records with strictly ascending keys.
 #[derive(Clone)]
@@ -68,6 +76,10 @@ impl Row {
             Spread::ForkEnds => {
                 let ends = |fork: u128| [fork * keys_of_fork, (fork + 1) * keys_of_fork - 1];
                 Row::of_ranks(rng, count, (0..).flat_map(ends))
+            }
+            Spread::Evenly => {
+                let (highest, gaps) = (FORMAT.lawful_keys() - 1, count.max(2) as u128 - 1);
+                Row::of_ranks(rng, count, (0..).map(|index| index * highest / gaps))
             }
             Spread::Random => Row::of(make_records(rng, FORMAT, count)),
         }

@@ -186,7 +186,7 @@ fn targets_that_need_map_nodes() {
         [(2_048, 0), (2_049, 1), (6_000, 1), (6_001, 2), (9_952, 2), (9_953, 3), (65_536, 17)]
     {
         for count in [0, 1, 900, most_records(nodes)] {
-            let row = Row::random(&mut rng, count, SPREADS[count % 5]);
+            let row = Row::random(&mut rng, count, SPREADS[count % SPREADS.len()]);
             let image = written(&row.bytes, nodes);
             assert!(image == laid_down(&row.records, nodes), "{count} records, {nodes} nodes");
             assert_holds(&image, &row);

@@ -47,14 +47,14 @@ impl RowSpoiling {
     }
 }
 
-/// Lengths between whole records, and the other faults in the first, the last and two other records.
+/// Lengths between whole records, and the other faults in the first two records, the last and two others.
 pub fn spoilings(rng: &mut Rng, row: &Row) -> Vec<RowSpoiling> {
     let mut found = broken_lengths(row);
     if row.records.is_empty() {
         return found;
     }
     let count = row.records.len();
-    let mut records = vec![0, count / 2, rng.index(count), count - 1];
+    let mut records = vec![0, 1.min(count - 1), count / 2, rng.index(count), count - 1];
     records.sort_unstable();
     records.dedup();
     for record in records {

@@ -22,7 +22,8 @@ pub fn spoiled(comparison: &mut WriteComparison, seed: u64) {
 fn each_target(comparison: &mut WriteComparison, rng: &mut Rng, row: &Row, spoiling: &RowSpoiling) {
     let spoiled = spoiling.applied(row);
     let enough = least_nodes(row.records.len());
-    let fewer = 1 + rng.index(enough);
+    // One node is the fewest that a target can have.
+    let fewer = 1 + rng.index(enough.max(2) - 1);
     for nodes in [enough, enough + rng.index(9), fewer] {
         comparison.write_for(RowSpoiling::NUMBER, &spoiled, nodes * 512);
     }
