@@ -48,7 +48,7 @@ pub fn write_map_node(node: &mut FreshNode, next: u32, used: usize) {
 
 /// Writes a leaf with its records, of which there are 1 to 22.
 ///
-/// Inlined, so that the many full leaves are written without a length that is not known.
+/// Inlined, so that where full leaves are written their length is a constant.
 #[inline(always)]
 pub fn write_leaf(node: &mut FreshNode, links: Links, records: &[LeafBytes]) {
     let bytes = records.as_flattened();

@@ -27,7 +27,7 @@ pub fn assert_holds(question: &WriteQuestion, image: &[u8], rng: &mut Rng, tally
     question.same("check of the image", &check(image, &mut work), &SOUND);
     all_at_once(question, image, records, &mut work);
     for index in to_ask(rng, image, records.len()) {
-        one(question, image, records, index, &mut work);
+        look_up(question, image, records, index, &mut work);
         tally.single_keys += 1;
     }
     let listed = leaf_records(image);
@@ -56,7 +56,7 @@ fn all_at_once(question: &WriteQuestion, image: &[u8], records: &[RecordBytes], 
     }
 }
 
-fn one(
+fn look_up(
     question: &WriteQuestion,
     image: &[u8],
     records: &[RecordBytes],
