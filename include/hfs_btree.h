@@ -1,19 +1,21 @@
 /*
  * A proved reader of the extents overflow file of an HFS or HFS Plus volume, and of the catalog of an
- * HFS volume; and from a block of a file to the block of the volume, by both.
+ * HFS volume; from a block of a file to the block of the volume, by both; and a proved writer of a fresh
+ * extents overflow file of HFS.
  *
- * Any bytes are an image, and nobody has to have checked them first. An image is only read. No call
- * allocates, keeps anything or fails: each answers by a number and a place, and writes every element
- * of `out` and `data`, whatever the answer. `image`, `keys`, `results`, `name`, `work`, `out` and `data`
- * do not overlap, and none is NULL, not even an empty image, an empty name, no keys or no working bytes;
- * the same goes for the two images and their working bytes that hfs_block takes.
+ * Any bytes are an image, and nobody has to have checked them first. An image is only read, and so is a
+ * row; `target` is written, and only by hfs_write_tree. No call allocates, keeps anything or fails: each
+ * answers by a number and a place, and writes every element of `out` and `data`, whatever the answer.
+ * `image`, `keys`, `results`, `name`, `work`, `out` and `data` do not overlap, and none is NULL, not even
+ * an empty image, an empty name, no keys or no working bytes; the same goes for the two images and their
+ * working bytes that hfs_block takes, and for `row`, `target` and `out` of hfs_write_tree.
  *
  * hfs_check, hfs_lookup, hfs_lookup_many and hfs_salvage read the extents overflow file of HFS. The calls
  * with hfs_extents_ in their names read that of the edition and the node size that the caller says:
  * HFS_EDITION_HFS with nodes of 512 bytes, or HFS_EDITION_HFS_PLUS with 512, 1,024, 2,048, 4,096, 8,192,
  * 16,384 or 32,768. Anything else is 25, before any other test. The calls with hfs_catalog_ in their
  * names read the catalog of HFS, with nodes of 512 bytes. hfs_block reads the catalog and the extents
- * overflow file of one HFS volume.
+ * overflow file of one HFS volume. hfs_write_tree writes an extents overflow file of HFS.
  *
  * A check and the lookups work in bytes that the caller lends, with any contents: one bit for each node
  * of the image, so HFS_WORK_BYTES(len) of them, or HFS_EXTENTS_WORK_BYTES(len, node_size), at most
@@ -29,7 +31,7 @@
  * A place is a node and a byte offset in it.
  *
  *  No.  Meaning                                    Node and offset
- *   0   sound; or all keys looked up               0, 0
+ *   0   sound; or all keys looked up; or written   0, 0
  *   0   found                                      the node, where the record starts
  *   1   length: not 1 to 65,536 whole nodes, of    0, 0
  *       512 bytes or of the node size said
@@ -60,6 +62,10 @@
  *  16   fewer working bytes than the nodes need    0, 0
  *  17   no record covers the block of the file     0, 0
  *  18   the volume block is above 65,535           0, 0
+ *  19   a row not of whole records, or with a      0, 0
+ *       wrong length byte or fork byte, or with
+ *       keys that do not strictly ascend
+ *  20   more nodes wanted than the target has      0, 0
  *  24   under the catalog key stands no file       0, 0
  *  25   an edition, or a node size of it, that     0, 0
  *       is not listed above
@@ -68,7 +74,8 @@
  * at 14 + 76 r in HFS Plus; in a catalog, whose records differ in length, where offset word r says.
  * Levels count from the leaves: leaves are the nodes of level 1, each child's
  * level is one less than its parent's, and the root's is the depth. Of several faults the first in the
- * order of tests is the answer: 25, 11 or 15, 1, 16, then 2 to 10; of two images the catalog's first.
+ * order of tests is the answer: 25, 11 or 15, 1, 16, then 2 to 10; of two images the catalog's first; of a
+ * row and its target 1, 19, 20.
  */
 #ifndef HFS_BTREE_H
 #define HFS_BTREE_H
@@ -278,6 +285,28 @@ void hfs_block(const uint8_t *catalog, size_t catalog_len, uint8_t *catalog_work
                size_t catalog_work_len, const uint8_t *extents, size_t extents_len,
                uint8_t *extents_work, size_t extents_work_len, uint32_t parent, const uint8_t *name,
                size_t name_len, uint8_t fork, uint16_t block, uint32_t out[7], uint8_t data[12]);
+
+/*
+ * Lays a fresh tree down: writes an image of HFS as long as the target, whose leaf records are those of the
+ * row. A record has 20 bytes: the key's length byte, 07, its fork byte, 00 or FF, its file number (4) and
+ * its start block (2), then 12 bytes of data, three pairs of first block and block count; all big-endian.
+ * The keys strictly ascend. No records are a row too. The lengths count bytes.
+ *
+ * The target's length is judged first, then the row, then whether the target has as many nodes as it takes.
+ * After 0 every byte of the target is written, whatever it held: the header, then the fewest map nodes
+ * that give each of the target's nodes a bit, then leaves of 22 records each, the last with the rest, then
+ * each level of index nodes, of 35 records likewise, the root last; all other bytes are zero. The image is
+ * sound, and no sound tree with these records has fewer nodes. After any other number the target is as it
+ * was.
+ *
+ * out[0]  0 written; 1 if the target is not 1 to 65,536 whole nodes of 512 bytes; 19 if the row is not of
+ *         whole records, or has a wrong length byte or fork byte, or keys that do not strictly ascend; 20
+ *         if it takes more nodes than the target has
+ * out[1]  0
+ * out[2]  0
+ */
+void hfs_write_tree(const uint8_t *row, size_t row_len, uint8_t *target, size_t target_len,
+                    uint32_t out[3]);
 
 #ifdef __cplusplus
 }

@@ -1,4 +1,4 @@
-//! Asks the proved reader and the reference the same questions and stops at the first difference.
+//! Asks the proved reader and writer and the reference the same questions and stops at the first difference.
 
 mod asking;
 pub mod block;
@@ -14,6 +14,7 @@ mod question;
 mod seed;
 mod shown;
 mod tally;
+pub mod write;
 
 pub use comparison::Comparison;
 pub use keys::packed;

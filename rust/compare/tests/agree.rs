@@ -1,11 +1,14 @@
 //! Compares the two readers on every family of images, of extents in every format and of catalogs, and on
-//! every family of volumes, on as many threads as there are cores.
+//! every family of volumes, and the two writers on every family of rows, on as many threads as there are
+//! cores.
 
 use compare::block::families::{BlockFamily, BLOCK_FAMILIES};
 use compare::block::{BlockComparison, BlockTally};
 use compare::catalog::families::{CatalogFamily, CATALOG_FAMILIES};
 use compare::catalog::CatalogComparison;
 use compare::families::{Family, FAMILIES};
+use compare::write::families::{WriteFamily, WRITE_FAMILIES};
+use compare::write::{WriteComparison, WriteTally};
 use compare::{seed, Comparison, Tally};
 use images::Format;
 use std::sync::atomic::{AtomicUsize, Ordering};
@@ -19,18 +22,23 @@ const LEAST_PAIRS: u64 = 10_000;
 /// Nor would fewer blocks than this.
 const LEAST_BLOCKS: u64 = 100_000;
 
+/// Nor would fewer rows than this that were given each of the writer's numbers.
+const LEAST_OF_NUMBER: u64 = 1_000;
+
 /// What one thread compares at a time.
 #[derive(Clone, Copy)]
 enum Job {
     Extents(&'static Family, Format),
     Catalogs(&'static CatalogFamily),
     Blocks(&'static BlockFamily),
+    Rows(&'static WriteFamily),
 }
 
-/// What was asked of a family: of images in a format, or of volumes.
+/// What was asked of a family: of images in a format, of volumes, or of rows.
 enum Counted {
     Images(Format, Tally),
     Volumes(BlockTally),
+    Rows(WriteTally),
 }
 
 /// A family, with what was asked and how long it took.
@@ -61,8 +69,14 @@ fn main() {
     let volumes = print_blocks("all volumes", &parts, |_| true);
     assert!(volumes.blocks >= LEAST_BLOCKS, "fewer than {LEAST_BLOCKS} blocks");
     volumes.assert_every_answer();
+    for family in &WRITE_FAMILIES {
+        print_rows(family.name, &parts, |part| part.family == family.name);
+    }
+    let rows = print_rows("all rows", &parts, |_| true);
+    rows.assert_every_answer(LEAST_OF_NUMBER);
     print_total(images);
     print_total_of_volumes(&volumes);
+    print_total_of_rows(&rows);
     let seconds: f64 = parts.iter().map(|part| part.seconds).sum();
     println!("{seconds:.1} seconds, of all threads together");
 }
@@ -72,7 +86,8 @@ fn jobs() -> Vec<Job> {
     let catalogs = CATALOG_FAMILIES.iter().map(Job::Catalogs);
     let of_family = |family| Format::all().map(move |format| Job::Extents(family, format));
     let blocks = BLOCK_FAMILIES.iter().map(Job::Blocks);
-    FAMILIES.iter().flat_map(of_family).chain(catalogs).chain(blocks).collect()
+    let rows = WRITE_FAMILIES.iter().map(Job::Rows);
+    FAMILIES.iter().flat_map(of_family).chain(catalogs).chain(blocks).chain(rows).collect()
 }
 
 /// Threads of the usual stack size, as a caller's would be, take one job at a time.
@@ -111,6 +126,11 @@ fn run(job: Job, seed: u64) -> Part {
             let mut comparison = BlockComparison::new(family.name);
             (family.run)(&mut comparison, seed);
             (family.name, Counted::Volumes(comparison.tally()))
+        }
+        Job::Rows(family) => {
+            let mut comparison = WriteComparison::new(family.name);
+            (family.run)(&mut comparison, seed);
+            (family.name, Counted::Rows(comparison.tally()))
         }
     };
     Part { family, counted, seconds: started.elapsed().as_secs_f64() }
@@ -151,6 +171,21 @@ fn print_blocks(name: &str, parts: &[Part], is_chosen: impl Fn(&Part) -> bool) -
     sum
 }
 
+/// The same of rows.
+fn print_rows(name: &str, parts: &[Part], is_chosen: impl Fn(&Part) -> bool) -> WriteTally {
+    let mut sum = WriteTally::default();
+    let mut seconds = 0.0;
+    for part in parts.iter().filter(|part| is_chosen(part)) {
+        if let Counted::Rows(tally) = &part.counted {
+            sum += tally;
+            seconds += part.seconds;
+        }
+    }
+    let (targets, records) = (sum.targets(), sum.records);
+    println!("{name:30}{targets:9} rows{records:11} records written{seconds:7.1} s");
+    sum
+}
+
 fn print_total(total: Tally) {
     println!("{} images, {} image-and-key pairs, no difference", total.images, total.pairs);
     let Tally { by_hfs_calls, high_starts, unlisted, .. } = total;
@@ -168,4 +203,11 @@ fn print_total_of_volumes(total: &BlockTally) {
         println!("answers that concern the {image}, by number: {answers:?}");
     }
     println!("working bytes lent for an image: {too_few} times too few, {enough} just enough, {more} more");
+}
+
+fn print_total_of_rows(total: &WriteTally) {
+    let WriteTally { records, single_keys, .. } = total;
+    println!("{} rows with a target each, no difference", total.targets());
+    println!("{records} records written, {single_keys} of them looked up one by one too");
+    println!("answers of the writers, by number: {:?}", total.answers());
 }

@@ -110,6 +110,13 @@ extern "C" {
         out: *mut [u32; 7],
         data: *mut [u8; 12],
     );
+    fn hfs_write_tree(
+        row: *const u8,
+        row_len: usize,
+        target: *mut u8,
+        target_len: usize,
+        out: *mut [u32; 3],
+    );
 }
 
 // What a call does not write would show as a number that no answer has.
@@ -291,4 +298,14 @@ pub fn block(
         )
     };
     (out, data)
+}
+
+pub fn write_tree(row: &[u8], target: &mut [u8]) -> [u32; 3] {
+    let mut out = [UNWRITTEN; 3];
+    let (records, records_len) = (row.as_ptr(), row.len());
+    let (lent, lent_len) = (target.as_mut_ptr(), target.len());
+    // SAFETY: the row is a live slice and only read, `target` is a live slice lent to write, and `out` is
+    // an array of its own.
+    unsafe { hfs_write_tree(records, records_len, lent, lent_len, &mut out) };
+    out
 }

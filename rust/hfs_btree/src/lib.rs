@@ -1,5 +1,5 @@
-//! The proved reader of extents overflow files, of HFS and HFS Plus, and of HFS catalog files, as safe
-//! functions on any bytes.
+//! The proved reader of extents overflow files, of HFS and HFS Plus, and of HFS catalog files, and the
+//! proved writer of fresh extents trees of HFS, as safe functions on any bytes.
 //!
 //! An image need not have been checked before: `lookup` and `lookup_many` check it whole, and `salvage`
 //! trusts no node. `check` and the lookups work in bytes that the caller lends, one bit for each node
@@ -7,7 +7,7 @@
 //!
 //! The functions here read extents of HFS; those in [`editions`] read extents of HFS and HFS Plus, and
 //! those in [`catalog`] the catalog of HFS. [`block()`] reads the catalog and the extents of a volume
-//! together.
+//! together. [`write_tree`] is the one function that writes an image.
 
 mod archive;
 pub mod block;
@@ -33,7 +33,7 @@ pub const fn packed(file: u32, fork: u8, start: u16) -> u64 {
     (file as u64) << 24 | (fork as u64) << 16 | start as u64
 }
 
-/// The first fault of an image by the order of tests, or 0 at node 0, offset 0 if it is sound.
+/// The first fault by the order of tests, or 0 at node 0, offset 0 if there is none.
 #[derive(Clone, Copy, Debug, PartialEq, Eq)]
 pub struct Verdict {
     pub number: u32,
@@ -154,7 +154,22 @@ pub fn salvage(image: &[u8], file: u32, fork: u8, start: u16) -> Salvage {
     salvaged(out, data)
 }
 
-/// What the numbers of a check or of a call for many keys say.
+/// Lays a fresh tree of HFS down: an image as long as the target, whose leaf records are those of the row.
+///
+/// A record has 20 bytes: a key of eight, length byte first, and 12 of data. The number is 0 if the image
+/// is written, every byte of the target. Else it is a refusal, and the target is as it was: 1 if that is
+/// not 1 to 65,536 whole nodes of 512 bytes; 19 if the row is not of whole records, or has a length byte
+/// other than 07, a fork byte other than 00 or FF, or keys that do not strictly ascend; 20 if the target
+/// has fewer nodes than it takes. The place is always node 0, offset 0.
+///
+/// The image is sound, and no sound tree with these records has fewer nodes. The header comes first, then
+/// as many map nodes as the target needs, then the leaves with 22 records each and the last with the rest,
+/// then each level of index nodes, of 35 likewise, the root last. All other bytes are zero.
+pub fn write_tree(row: &[u8], target: &mut [u8]) -> Verdict {
+    verdict(archive::write_tree(row, target))
+}
+
+/// What the numbers of a check, of a call for many keys or of the writer say.
 fn verdict([number, node, offset]: [u32; 3]) -> Verdict {
     Verdict { number, place: Place { node, offset } }
 }

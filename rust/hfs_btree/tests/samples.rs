@@ -2,7 +2,8 @@
 
 use hfs_btree::block::{block, Answer, Image};
 use hfs_btree::editions::{check, needed_work, Edition, Place, Verdict};
-use images::{bench, catalog, samples, volume, Key};
+use hfs_btree::write_tree;
+use images::{bench, catalog, rows, samples, volume, Key};
 use std::path::Path;
 
 fn sample(name: &str) -> Vec<u8> {
@@ -73,4 +74,14 @@ fn of_a_volume() {
     assert_eq!((ask(4).image, ask(4).volume_block), (Image::Catalog, 40));
     assert_eq!((ask(5).image, ask(5).volume_block), (Image::Extents, 50));
     assert_eq!(ask(18).answer, Answer::NotCovered);
+}
+
+#[test]
+fn of_a_row() {
+    let row = sample("written_two_level.row");
+    assert_eq!(row, rows::two_level().bytes);
+    let mut made = vec![0xA5; rows::TWO_LEVEL_NODES * 512];
+    assert_eq!(write_tree(&row, &mut made).number, 0);
+    assert_eq!(sample("written_two_level.img"), made);
+    assert_eq!(says(Edition::Hfs, 512, &made), (0, 0, 0));
 }

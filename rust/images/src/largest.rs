@@ -5,12 +5,17 @@ use crate::plan::Plan;
 
 /// A plan of exactly `nodes` nodes, at least one, with the fewest map nodes and the most leaves.
 pub fn largest_plan(format: Format, seed: u64, nodes: usize) -> Plan {
-    let beyond_header = nodes.saturating_sub(format.header_bits());
-    let map_nodes = beyond_header.div_ceil(format.map_node_bits());
+    let map_nodes = map_nodes_for(format, nodes);
     let room = nodes - 1 - map_nodes;
     let level_sizes = largest_tree(room, format.most_index_records());
     let free_nodes = room - level_sizes.iter().sum::<usize>();
     Plan { map_nodes, free_nodes, ..Plan::tidy_in(format, seed, &level_sizes) }
+}
+
+/// The fewest map nodes that have, with the header, a bit for each of so many nodes.
+pub fn map_nodes_for(format: Format, nodes: usize) -> usize {
+    let beyond_header = nodes.saturating_sub(format.header_bits());
+    beyond_header.div_ceil(format.map_node_bits())
 }
 
 /// The levels of the tree with the most leaves that the room allows, root first.
@@ -21,7 +26,7 @@ fn largest_tree(room: usize, most_children: usize) -> Vec<usize> {
 }
 
 /// The levels over a number of leaves, root first, each with the fewest nodes.
-fn lowest_tree_over(leaves: usize, most_children: usize) -> Vec<usize> {
+pub fn lowest_tree_over(leaves: usize, most_children: usize) -> Vec<usize> {
     let mut level_sizes = Vec::new();
     let mut size = leaves;
     while size > 1 {

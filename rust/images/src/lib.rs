@@ -1,5 +1,6 @@
 //! Builds images of extents overflow files, of HFS and HFS Plus, of HFS catalog files, and of both of
-//! one volume: sound ones, the paper's bench images and spoiled ones.
+//! one volume: sound ones, the paper's bench images and spoiled ones. And rows of leaf records, lawful
+//! and spoiled.
 //!
 //! Nothing here reads an image back; what a reader should say follows from how it was built.
 
@@ -16,6 +17,7 @@ pub mod node;
 mod numbering;
 pub mod plan;
 pub mod rng;
+pub mod rows;
 pub mod samples;
 mod shape;
 pub mod spoil;

@@ -2,8 +2,10 @@
 
 use images::bench::*;
 use images::by_hand::three_levels_by_hand;
+use images::rows::{self, Row};
 use images::spoil::{spoilings, KeyFaults, Spoiling};
 use images::{bench_plus, catalog, samples, volume, Built, Format, Key};
+use reference::{write_tree, Verdict};
 use std::collections::BTreeMap;
 
 /// An image with the name of its file and the format it is to be read in.
@@ -11,6 +13,8 @@ pub struct Sample {
     pub name: String,
     pub format: Format,
     pub image: Vec<u8>,
+    /// The leaf records that it was laid down from, if it was.
+    pub row: Option<Vec<u8>>,
 }
 
 pub fn catalogue() -> Vec<Sample> {
@@ -35,6 +39,7 @@ pub fn catalogue() -> Vec<Sample> {
     all.push(catalog_sample("largest", catalog::samples::largest().image));
     all.push(catalog_sample("largest_mixed", catalog::samples::largest_mixed().image));
     all.extend(volume_samples());
+    all.push(written_sample("written_two_level", &rows::two_level(), rows::TWO_LEVEL_NODES));
     all
 }
 
@@ -132,6 +137,13 @@ fn volume_samples() -> [Sample; 2] {
     [Sample { format: Format::CATALOG, ..catalog }, extents]
 }
 
+/// What the reference lays down from a row, in so many nodes.
+fn written_sample(name: &str, row: &Row, nodes: usize) -> Sample {
+    let mut image = vec![0; nodes * Format::HFS.node_size];
+    assert_eq!(write_tree(&row.bytes, &mut image), Verdict::SOUND, "{name}");
+    Sample { row: Some(row.bytes.clone()), ..sample(name, image) }
+}
+
 /// The sound image, and two spoiled versions for each thing that can be wrong with it.
 fn with_spoiled<K: KeyFaults>(name: &str, built: Built<K>) -> Vec<Sample> {
     // The first of a kind lies near the root and the last one in a leaf, so both are kept.
@@ -172,5 +184,5 @@ fn catalog_sample(name: &str, image: Vec<u8>) -> Sample {
 
 fn sample(name: &str, image: Vec<u8>) -> Sample {
     let name = name.to_string();
-    Sample { name, format: Format::HFS, image }
+    Sample { name, format: Format::HFS, image, row: None }
 }

@@ -1,4 +1,5 @@
-//! Writes sample images to a folder, each with what the reference says of it.
+//! Writes sample images to a folder, each with what the reference says of it, and rows of leaf records
+//! with the images that it lays down from them.
 
 mod catalogue;
 
@@ -33,8 +34,11 @@ fn write_all(folder: &Path) -> io::Result<usize> {
     fs::create_dir_all(folder)?;
     let samples = catalogue();
     let mut verdicts = String::new();
-    for Sample { name, format, image } in &samples {
+    for Sample { name, format, image, row } in &samples {
         fs::write(folder.join(format!("{name}.img")), image)?;
+        if let Some(row) = row {
+            fs::write(folder.join(format!("{name}.row")), row)?;
+        }
         // The listing program reads extents of HFS only.
         if *format == Format::HFS {
             fs::write(folder.join(format!("{name}.expected")), listing(image))?;

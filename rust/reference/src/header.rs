@@ -1,9 +1,9 @@
-//! Test 2: what the header node says and whether it may say so.
+//! What the header node says, how that is written, and test 2: whether it may say so.
 
 use crate::layout::Layout;
 use crate::node::{
-    back_link, be16, be32, ends_in, kind, level, record_count, reserved, Node, HEADER_KIND,
-    RECORDS_AT,
+    back_link, be16, be32, ends_in, kind, level, put16, put32, record_count, reserved, Node,
+    HEADER_KIND, RECORDS_AT,
 };
 use std::ops::Range;
 
@@ -42,6 +42,18 @@ impl Header {
         }
     }
 
+    pub fn write<const N: usize>(&self, node: &mut Node<N>) {
+        put16(node, 14, self.depth as u16);
+        put32(node, ROOT_AT, self.root);
+        put32(node, 20, self.leaf_records);
+        put32(node, 24, self.first_leaf);
+        put32(node, 28, self.last_leaf);
+        put16(node, 32, self.node_size);
+        put16(node, 34, self.key_length);
+        put32(node, 36, self.total_nodes);
+        put32(node, 40, self.free_nodes);
+    }
+
     /// Whether the fields are possible in an image of `node_count` nodes.
     pub fn is_possible<L: Layout, const N: usize>(&self, node_count: usize) -> bool {
         usize::from(self.node_size) == N
@@ -61,13 +73,17 @@ pub fn map_record<const N: usize>() -> Range<usize> {
     MAP_RECORD_AT..N - 8
 }
 
+/// The offset words of a header, the first record's last.
+pub fn offset_words<const N: usize>() -> [u16; 4] {
+    [map_record::<N>().end, MAP_RECORD_AT, USER_RECORD_AT, RECORDS_AT].map(|start| start as u16)
+}
+
 /// Whether the node around the header record is a header node; its forward link is the map's.
 pub fn is_header_node<const N: usize>(node: &Node<N>) -> bool {
-    let starts = [map_record::<N>().end, MAP_RECORD_AT, USER_RECORD_AT, RECORDS_AT];
     back_link(node) == 0
         && kind(node) == HEADER_KIND
         && level(node) == 0
         && record_count(node) == 3
         && reserved(node) == 0
-        && ends_in(node, starts.map(|start| start as u16))
+        && ends_in(node, offset_words::<N>())
 }

@@ -12,7 +12,7 @@ pub const NODE_SIZE: usize = 512;
 pub const LEAF_DATA_SIZE: usize = 12;
 
 pub const LEAF_SIZE: usize = KEY_SIZE + LEAF_DATA_SIZE;
-const INDEX_SIZE: usize = KEY_SIZE + 4;
+pub const INDEX_SIZE: usize = KEY_SIZE + 4;
 
 impl Layout for Hfs {
     type Key<'a> = u64;

@@ -1,9 +1,10 @@
 //! A plain reader of a file held in one byte image: an extents overflow file, of HFS or HFS Plus, or
-//! an HFS catalog file.
+//! an HFS catalog file. And a writer of fresh extents trees of HFS.
 //!
 //! It answers whether the image is sound, what stands under a key or under each of many, and what can
 //! be salvaged. The functions here read extents of HFS; [`editions`] has both editions, and
-//! [`catalog`] the catalog. [`block()`] reads a catalog and its extents together.
+//! [`catalog`] the catalog. [`block()`] reads a catalog and its extents together. [`write_tree`] lays
+//! the records of a row down as an image.
 
 pub mod block;
 pub mod catalog;
@@ -11,6 +12,7 @@ mod check;
 mod descent;
 mod edition;
 pub mod editions;
+mod fresh_node;
 mod halving;
 mod header;
 mod hfs;
@@ -34,6 +36,7 @@ mod side_by_side;
 mod tree;
 mod verdict;
 mod work;
+mod writing;
 
 pub use block::block;
 pub use hfs_calls::{check, lookup, salvage};
@@ -46,3 +49,4 @@ pub use place::Place;
 pub use salvage::{Salvage, SalvageAnswer};
 pub use verdict::Verdict;
 pub use work::needed_work;
+pub use writing::write_tree;

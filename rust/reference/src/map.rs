@@ -68,16 +68,20 @@ fn next_in_chain<const N: usize>(nodes: &[Node<N>], number: u32) -> Option<u32> 
 }
 
 /// Where the record of a map node stands in it.
-fn map_record<L: Layout, const N: usize>() -> Range<usize> {
+pub fn map_record<L: Layout, const N: usize>() -> Range<usize> {
     RECORDS_AT..N - L::AFTER_MAP_RECORD
 }
 
+/// The offset words of a map node, that of its record last.
+pub fn offset_words<L: Layout, const N: usize>() -> [u16; 2] {
+    [map_record::<L, N>().end, RECORDS_AT].map(|start| start as u16)
+}
+
 fn is_map_node<L: Layout, const N: usize>(node: &Node<N>) -> bool {
-    let starts = [map_record::<L, N>().end, RECORDS_AT];
     back_link(node) == 0
         && kind(node) == MAP_KIND
         && level(node) == 0
         && record_count(node) == 1
         && reserved(node) == 0
-        && ends_in(node, starts.map(|start| start as u16))
+        && ends_in(node, offset_words::<L, N>())
 }

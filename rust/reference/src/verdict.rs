@@ -18,10 +18,12 @@ pub const RESULT_ROW: u32 = 15;
 pub const WORKING_BYTES: u32 = 16;
 pub const NOT_COVERED: u32 = 17;
 pub const VOLUME_BLOCK: u32 = 18;
+pub const RECORD_ROW: u32 = 19;
+pub const TARGET_NODES: u32 = 20;
 pub const NOT_A_FILE: u32 = 24;
 pub const FORMAT: u32 = 25;
 
-/// What a check or a call for many keys answers: a number and the place that belongs to it.
+/// What a check, a call for many keys or a writer answers: a number and the place that belongs to it.
 #[derive(Clone, Copy, Debug, PartialEq, Eq)]
 pub struct Verdict {
     pub number: u32,

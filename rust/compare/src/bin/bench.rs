@@ -1,10 +1,12 @@
 //! Times the proved reader and the reference on sound images of 1 to 65,536 nodes, under many keys at
-//! once, in one full leaf, on HFS Plus, on catalogs, and on a volume; nothing is asserted.
+//! once, in one full leaf, on HFS Plus, on catalogs, and on a volume, and both writers on the longest row;
+//! nothing is asserted.
 
 use compare::packed;
 use hfs_btree::editions as proved;
+use images::rows::Row;
 use images::volume::{self, FileFork, Volume};
-use images::{bench, catalog, samples, Built, Format, Key, Rng};
+use images::{bench, catalog, rows, samples, Built, Format, Key, Rng};
 use reference::editions as plain;
 use std::hint::black_box;
 use std::time::Instant;
@@ -56,6 +58,8 @@ fn main() {
     largest_catalog(&catalog::samples::largest_mixed());
     println!("volume, nodes in a random order");
     largest_volume(&volume::samples::largest_under(CATALOG_NODES));
+    println!("longest row");
+    longest_row(&rows::longest(MOST_NODES));
 }
 
 fn largest(built: &Built) {
@@ -167,6 +171,19 @@ fn largest_volume(volume: &Volume) {
             },
         );
     }
+}
+
+/// The row laid down in the largest target, over what the run before has left there.
+fn longest_row(row: &Row) {
+    println!("{MOST_NODES} nodes, {} records, median of {RUNS}", row.records.len());
+    let target = vec![0; MOST_NODES * Format::HFS.node_size];
+    let [mut ours, mut theirs] = [target.clone(), target];
+    let bytes = || black_box(row.bytes.as_slice());
+    report(
+        "write",
+        || hfs_btree::write_tree(bytes(), &mut ours),
+        || reference::write_tree(bytes(), &mut theirs),
+    );
 }
 
 /// A key above those of all records.

@@ -99,10 +99,7 @@ impl Spoiling {
 
     pub fn apply(&self, image: &mut Vec<u8>) {
         for patch in &self.patches {
-            match patch {
-                Patch::Write { at, bytes } => image[*at..*at + bytes.len()].copy_from_slice(bytes),
-                Patch::Resize(len) => resize(image, *len),
-            }
+            patch.apply(image);
         }
     }
 
@@ -129,6 +126,13 @@ impl Patch {
     pub fn bytes(at: usize, bytes: &[u8]) -> Patch {
         let bytes = bytes.to_vec();
         Patch::Write { at, bytes }
+    }
+
+    pub fn apply(&self, image: &mut Vec<u8>) {
+        match self {
+            Patch::Write { at, bytes } => image[*at..*at + bytes.len()].copy_from_slice(bytes),
+            Patch::Resize(len) => resize(image, *len),
+        }
     }
 
     /// The node whose bytes it changes first.
