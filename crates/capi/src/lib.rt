@@ -1,4 +1,4 @@
-// What C and Rust call. Every element of `out` and `data` is written, whatever the answer; what is left in `results` and `work`, the answer tells.
+// What C and Rust call. Every element of `out` and `data` is written, whatever the answer; what is left in `results`, `work` and `target`, the answer tells.
 ghost use mathlib.Core.Path.{_≡_};
 ghost use lib.ListN.{length};
 ghost use Rattle.btree.specs.Numbers.{lookupReply, salvageReply, replyNumbers, lookupNumbers};
@@ -16,6 +16,7 @@ ghost use Rattle.replies.specs.Written.{dataBytes, wideBytes, allBytes};
 ghost use Rattle.catalog_replies.specs.Written.{entryNumbers, seenNumbers};
 ghost use Rattle.coverings.specs.Answers.{blockNumbers};
 ghost use Rattle.block_replies.specs.Written.{coveringBytes};
+ghost use Rattle.writing.specs.Written.{writeAnswer, written};
 use block_replies::block_numbers;
 use block_replies::covering_bytes;
 use blocks::block;
@@ -241,4 +242,13 @@ pub extern "C" fn hfs_block(
     );
     *out = block_numbers(mapping);
     *data = covering_bytes(catalog, extents, mapping);
+}
+
+// Number, 0, 0; and the target.
+#[no_mangle]
+pub extern "C" fn hfs_write_tree(row: &[u8], target: &mut [u8], out: &mut [u32; 3])
+    ensures numbers { λ _. ⌜ now (out .exit) ≡ replyNumbers (writeAnswer (now (row .entry)) (now (target .entry))) ⌝ }
+    ensures bytes { λ _. ⌜ now (target .exit) ≡ written (now (row .entry)) (now (target .entry)) ⌝ }
+{
+    *out = verdict_numbers(writing::write_tree(row, target));
 }
