@@ -4,11 +4,11 @@
 use mathlib.Core.List.{List, [], _∷_, _++_}
 use Prim.Native.Nat.{ℕ, zero, suc, _+_, _-_, _*_, _/_, _^_, min}
 use native.Mathlib.Decide.{decLt}
-use lib.ListN.{length, take, drop, replicate}
+use lib.ListN.{take, drop, replicate}
 use Rattle.put.specs.Put.{be16, be32}
 use Rattle.btree.specs.Decide.{cond}
 use Rattle.btree.specs.Lists.{span, gather}
-use Rattle.shape.specs.Shape.{firstIn, rowOf, nodesAt, held, start, levels}
+use Rattle.shape.specs.Shape.{recordsIn, firstIn, rowOf, nodesAt, held, start, levels}
 
 -- "forward link (4), back link (4), kind (1), level (1), record count (2), reserved (2, zero)"
 unfoldable pub described : (forward back kind level count : ℕ) → List ℕ
@@ -97,10 +97,6 @@ module _ (row : List ℕ) (m r : ℕ) where
 
 abbrev pub joined : List (List ℕ) → List ℕ
 joined ns = gather (λ x. x) ns
-
--- whole records of a row
-abbrev pub recordsIn : List ℕ → ℕ
-recordsIn row = length row / 20
 
 unfoldable pub laid : (row : List ℕ) (nodes : ℕ) → List ℕ
 laid row nodes = joined (nodesOf row (mapsFor nodes) (recordsIn row) (levels (recordsIn row)) nodes)

@@ -6,6 +6,7 @@ use mathlib.Core.List.{List}
 use Prim.Native.Nat.{ℕ, suc, _-_, _*_, _%_, _<_}
 use native.Mathlib.Decide.{ℕ-discrete, decLt}
 use lib.ListN.{length, take, drop}
+use Rattle.shape.specs.Shape.{recordsIn}
 use Rattle.btree.specs.Decide.{map-dec, decAll}
 use Rattle.btree.specs.Lists.{gather}
 use Rattle.btree.specs.Places.{imageOffset}
@@ -14,7 +15,6 @@ use Rattle.btree.specs.Tree.{Rec}
 use Rattle.frame.specs.Form.{hfs, layoutOf}
 use Rattle.extent_nodes.specs.Records.{KeyLaw, decKeyLaw}
 use Rattle.formats.specs.Format.{rankAt, view}
-use Rattle.laid.specs.Laid.{recordsIn}
 
 -- the keys of the first n records: none "with a wrong length or fork byte", and none "out of order"
 pub record KeysRight (row : List ℕ) (n : ℕ) : Type 0 where

@@ -2,10 +2,15 @@
 -- Heights count from the leaves, which are at height 0. What a height holds are its entries: records at height 0, and above that one for each node of the
 -- height below.
 -- Assumes nothing.
-use mathlib.Core.Path.{_≡_}
-use Prim.Native.Nat.{ℕ, zero, suc, _+_, _-_, _*_, _/_, _≤_, _<_, min}
+use mathlib.Core.List.{List}
+use Prim.Native.Nat.{ℕ, zero, suc, _+_, _-_, _*_, _/_, min}
 use native.Mathlib.Decide.{ℕ-discrete, decLe}
+use lib.ListN.{length}
 use Rattle.btree.specs.Decide.{cond}
+
+-- "a lent row of 20-byte leaf records": how many whole ones it has
+abbrev pub recordsIn : List ℕ → ℕ
+recordsIn row = length row / 20
 
 -- "leaves of 22 records", "index levels of 35"
 unfoldable pub fanout : ℕ → ℕ

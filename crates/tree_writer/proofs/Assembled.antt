@@ -8,10 +8,10 @@ use native.Mathlib.Omega.{arith}
 use lib.ListN.{length, replicate, replicate-append-replicate}
 use Rattle.btree.specs.Lists.{span, gather}
 use Rattle.btree.proofs.Lists.{gather-append}
-use Rattle.shape.specs.Shape.{firstIn, rowOf, entries, nodesAt, start, levels}
+use Rattle.shape.specs.Shape.{recordsIn, firstIn, rowOf, entries, nodesAt, start, levels}
 use Rattle.shape.proofs.Shape.{leaf-nodes, start-first, start-low, start-mono, start-step, nodes-some, levels-most, levels-deep, records-few}
 use Rattle.shape.proofs.Shaped.{Deep}
-use Rattle.laid.specs.Laid.{mapsFor, mapNode, header, node, levelNodes, nodesOf, joined, recordsIn, laid}
+use Rattle.laid.specs.Laid.{mapsFor, mapNode, header, node, levelNodes, nodesOf, joined, laid}
 use Rattle.level_writer.specs.Parts.{LeavesOf, leavesFrom, indexLevels, levelsSize, LevelsIn}
 use Rattle.tree_writer.specs.Room.{FrontIn, TreeIn, Room}
 use Rattle.tree_writer.proofs.Upper.{joined-ones, levels-is, size-is, levels-in}

@@ -22,9 +22,10 @@ use Rattle.reader.proofs.Soundness.{verdict-iff}
 use Rattle.extents.specs.Reader.{Sound, needed, checked}
 use Rattle.extents.proofs.Laws.{checked-says}
 use Rattle.shape.proofs.Levels.{range-length}
-use Rattle.laid.specs.Laid.{laid, wanted, recordsIn}
+use Rattle.shape.specs.Shape.{recordsIn}
+use Rattle.laid.specs.Laid.{laid, wanted}
 use Rattle.leaf_rows.specs.Row.{RowLaw, decRowLaw, leafRow}
-use Rattle.laid_sound.proofs.Result.{row-length, sound-maps, sound-wants, laid-length, laid-maps, laid-sound, laid-row, laid-least}
+use Rattle.laid.proofs.Result.{row-length, sound-maps, sound-wants, laid-length, laid-maps, laid-sound, laid-row, laid-least}
 use Rattle.writing.specs.Written.{nodesIn, writeAnswer, written}
 use Rattle.writing.specs.Demands.{Holds, IsFresh, WriteSays}
 

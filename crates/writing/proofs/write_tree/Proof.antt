@@ -12,8 +12,8 @@ use Rattle.btree.specs.Tests.{decLengths}
 use Rattle.btree.proofs.Decisions.{said}
 use Rattle.frame.specs.Form.{hfs, layoutOf}
 use Rattle.frame.proofs.Forms.{hfs-listed, fair}
-use Rattle.shape.specs.Shape.{start, levels}
-use Rattle.laid.specs.Laid.{wanted, recordsIn, rootFor}
+use Rattle.shape.specs.Shape.{recordsIn, start, levels}
+use Rattle.laid.specs.Laid.{wanted, rootFor}
 use Rattle.leaf_rows.specs.Row.{RowLaw, decRowLaw}
 use Rattle.tree_writer.proofs.Planned.{root-most, maps-most}
 use Rattle.writing.specs.Written.{nodesIn}

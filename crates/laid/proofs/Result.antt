@@ -19,19 +19,19 @@ use Rattle.frame.proofs.Forms.{whole-node}
 use Rattle.extent_nodes.specs.Records.{dataSize, recordSize}
 use Rattle.formats.specs.Format.{rankAt, recordAt, formatOf, view}
 use Rattle.formats.proofs.Starts.{record-inside}
-use Rattle.shape.specs.Shape.{fanout, start, levels}
+use Rattle.shape.specs.Shape.{recordsIn, fanout, start, levels}
 use Rattle.shape.proofs.Shape.{leaf-nodes, start-low, start-size, levels-most, levels-deep, records-few}
 use Rattle.shape.proofs.Shaped.{treeSize, Deep, range}
 use Rattle.shape.proofs.Levels.{ones-length, counts-length}
 use Rattle.shape.proofs.Fewest.{leaves-least, tree-least}
 use Rattle.shape.proofs.Reach.{tree-length}
 use Rattle.leaf_rows.specs.Row.{RowLaw, bytesOf, leafRow}
-use Rattle.laid.specs.Laid.{sizeAt, kindAt, mapsFor, laid, wanted, recordsIn}
+use Rattle.laid.specs.Laid.{sizeAt, kindAt, mapsFor, laid, wanted}
 use Rattle.laid.proofs.Bytes.{gather-length}
-use Rattle.laid_sound.proofs.Fields.{size-of}
-use Rattle.laid_sound.proofs.Header.{img-length, img-chain}
-use Rattle.laid_sound.proofs.Image.{Given, kind-on, shaped, sound}
-use Rattle.laid_sound.proofs.Rows.{row-again}
+use Rattle.laid.proofs.Fields.{size-of}
+use Rattle.laid.proofs.Header.{img-length, img-chain}
+use Rattle.laid.proofs.Image.{Given, kind-on, shaped, sound}
+use Rattle.laid.proofs.Rows.{row-again}
 
 -- "the fewest map nodes the target's size needs": so many are enough, and no fewer
 pub maps-enough : (nodes : ℕ) → nodes ≤ 8 * (256 + 494 * mapsFor nodes)

@@ -18,10 +18,10 @@ use Rattle.formats.specs.Format.{rankAt, recordOffset}
 use Rattle.put.specs.Put.{be16, be32}
 use Rattle.shape.specs.Shape.{firstIn, rowOf, entries, nodesAt, held, start}
 use Rattle.shape.proofs.Shape.{row-inside, held-most, held-inside, start-mono}
 use Rattle.laid.specs.Laid.{described, offsets, sizeAt, kindAt, backTo, entry, node, nodesOf, joined}
 use Rattle.laid.proofs.Bytes.{Same, same-16, same-32, same-part, same-then, same-skip, same-front, same-cut, same-span, same-joined}
-use Rattle.laid_sound.proofs.Keys.{same-key}
+use Rattle.laid.proofs.Keys.{same-key}
 use Rattle.laid.proofs.Nodes.{described-length, fits, entry-length, entries-length, cut-length, all-512, nodes-length, node-at}
 
 same-less : {xs ys : List ℕ} {a b n : ℕ} (k : ℕ) → k ≤ n → Same xs a ys b n → Same xs a ys b k
 same-less k l s = record { at = λ o u. s .at o (omega arith) }

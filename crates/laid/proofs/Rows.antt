@@ -20,12 +20,12 @@ use Rattle.shape.proofs.Shaped.{Deep, range, Shaped}
 use Rattle.shape.proofs.Levels.{span-move}
 use Rattle.shape.proofs.Tree.{tree-sound, tree-totals, leaf-range, leaf-entries}
 use Rattle.leaf_rows.specs.Row.{bytesOf}
 use Rattle.laid.specs.Laid.{sizeAt, entry}
 use Rattle.laid.proofs.Bytes.{same-take}
 use Rattle.laid.proofs.Nodes.{fits, entry-length}
-use Rattle.laid_sound.proofs.Fields.{i-record, i-entry}
-use Rattle.laid_sound.proofs.Header.{img-length}
-use Rattle.laid_sound.proofs.Image.{Given, img, keys, shaped}
+use Rattle.laid.proofs.Fields.{i-record, i-entry}
+use Rattle.laid.proofs.Header.{img-length}
+use Rattle.laid.proofs.Image.{Given, img, keys, shaped}
 
 gather-gather : {A B C : Type 0} (f : A → List B) (g : B → List C) (xs : List A) → gather g (gather f xs) ≡ gather (λ x. gather g (f x)) xs
 gather-gather f g [] = refl

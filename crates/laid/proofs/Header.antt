@@ -18,10 +18,10 @@ use Rattle.shape.specs.Shape.{start}
 use Rattle.shape.proofs.Shape.{start-low}
 use Rattle.shape.proofs.Shaped.{range}
 use Rattle.shape.proofs.Levels.{span-append}
 use Rattle.laid.specs.Laid.{described, mapByte, mapPart, mapNode, rootFor, firstFor, lastFor, headerStart, header, nodesOf, joined}
 use Rattle.laid.proofs.Bytes.{Same, same-16, same-32, same-part, same-then, same-skip, same-front, same-take, same-joined, gather-length}
 use Rattle.laid.proofs.Nodes.{described-length, start-length, part-length, all-512, nodes-length, header-at, map-at}
-use Rattle.laid_sound.proofs.Fields.{d-forward, d-back, d-kind, d-level, d-count, d-reserved, read-16}
+use Rattle.laid.proofs.Fields.{d-forward, d-back, d-kind, d-level, d-count, d-reserved, read-16}
 
 -- the header's numbers
 module _ (m r D nodes : ℕ) (rest : List ℕ) where

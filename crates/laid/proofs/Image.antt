@@ -24,13 +24,13 @@ use Rattle.shape.proofs.Shaped.{Deep, range, Shaped}
 use Rattle.shape.proofs.Levels.{range-in, range-once, range-last, range-length, spot}
 use Rattle.shape.proofs.Tree.{tree-sound, tree-totals}
 use Rattle.shape.proofs.Reach.{reached-length, reached-low, low-reached}
 use Rattle.laid.specs.Laid.{mapPart, kindAt, backTo, rootFor, firstFor, lastFor, nodesOf, joined}
 use Rattle.laid.proofs.Bytes.{same-16}
-use Rattle.laid_sound.proofs.Keys.{same-law}
+use Rattle.laid.proofs.Keys.{same-law}
 use Rattle.laid.proofs.Nodes.{fits}
-use Rattle.laid_sound.proofs.Fields.{size-of, i-forward, i-back, i-kind, i-level, i-count, i-reserved, i-offset, i-row, i-key, i-child}
-use Rattle.laid_sound.proofs.Header.{img-length, img-depth, img-root, img-records, img-first, img-last, img-size, img-key, img-total, img-free, img-start, img-words, img-next, img-link, img-chain, img-map, img-bytes}
-use Rattle.laid_sound.proofs.Bits.{bit-set, bit-clear}
+use Rattle.laid.proofs.Fields.{size-of, i-forward, i-back, i-kind, i-level, i-count, i-reserved, i-offset, i-row, i-key, i-child}
+use Rattle.laid.proofs.Header.{img-length, img-depth, img-root, img-records, img-first, img-last, img-size, img-key, img-total, img-free, img-start, img-words, img-next, img-link, img-chain, img-map, img-bytes}
+use Rattle.laid.proofs.Bits.{bit-set, bit-clear}
 
 pub kind-on : (h : ℕ) → kindOn (suc h) ≡ kindAt h
 unfolding kindOn kindAt
