@@ -2,7 +2,7 @@
 -- Assumes nothing.
 use mathlib.Core.Path.{_≡_, refl, sym, ap, _∙_}
 use mathlib.Core.List.{List, List·Memᴰ·not-nil}
-use Prim.Native.Nat.{ℕ, zero, suc, _+_, _-_, _*_, _/_, _≤_, _<_}
+use Prim.Native.Nat.{ℕ, zero, suc, _+_, _-_, _*_, _≤_, _<_}
 use native.Mathlib.Omega.{arith}
 use native.Mathlib.Decide.{ℕ-discrete}
 use lib.ListN.{length, length-append}
@@ -169,9 +169,6 @@ module _ (row : List ℕ) (nodes : ℕ) (law : RowLaw row) (few : nodes ≤ 6553
   pub laid-row : leafRow (laid row nodes) ≡ row
   unfolding laid
   laid-row = row-again row (mapsFor nodes) (recordsIn row) (levels (recordsIn row)) nodes given (omega (arith, law .whole))
-
-  pub laid-records : length (leafList (view hfs (laid row nodes))) ≡ recordsIn row
-  laid-records = let a = row-length (laid row nodes) laid-sound in omega (arith, ap length laid-row)
 
   pub laid-size : length (treeNodes (view hfs (laid row nodes))) ≡ treeSize (recordsIn row) (levels (recordsIn row))
   unfolding laid

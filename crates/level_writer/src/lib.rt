@@ -1,6 +1,6 @@
 // The levels of a fresh tree, written into a lent target. Each function writes at an index and returns the next.
 ghost use mathlib.Core.Path.{_≡_};
-ghost use Prim.Native.Nat.{ℕ, _+_, _-_, _*_, _≤_, min};
+ghost use Prim.Native.Nat.{_-_, _*_, _≤_, min};
 ghost use lib.ListN.{length};
 ghost use Rattle.put.specs.Put.{Puts};
 ghost use Rattle.btree.specs.Lists.{span};
@@ -10,7 +10,7 @@ use node_writer::index_node;
 use node_writer::leaf_node;
 use node_writer::link;
 
-// Where the records of a leaf end in a row, which start at `from`.
+// Where the records of a leaf end in a row, if they start at `from`.
 pub fn end_of(len: usize, from: usize) -> usize
     requires { ⌜ from ≤ len ⌝ }
     ensures { λ r. ⌜ (from ≤ r) × (r ≤ len) × (r - from ≡ min 440 (len - from)) ⌝ }
@@ -18,19 +18,19 @@ pub fn end_of(len: usize, from: usize) -> usize
     if len - from <= 440 { len } else { from + 440 }
 }
 
-// The leaves of a row, from node s on.
-pub fn leaves(t: &mut [u8], at: usize, row: &[u8], s: u32, n: u32) -> usize
-    requires { ⌜ LeavesOf (length (now t)) at (length (now row)) s n ⌝ }
-    ensures { λ r. ⌜ Puts (now (t .entry)) (now (t .exit)) at (512 * n) (leavesFrom (now (row .entry)) s 0 n) r ⌝ }
+// The leaves of a row, one after another.
+pub fn leaf_level(target: &mut [u8], at: usize, row: &[u8], first: u32, nodes: u32) -> usize
+    requires { ⌜ LeavesOf (length (now target)) at (length (now row)) first nodes ⌝ }
+    ensures { λ r. ⌜ Puts (now (target .entry)) (now (target .exit)) at (512 * nodes) (leavesFrom (now (row .entry)) first 0 nodes) r ⌝ }
 {
     let mut a = at;
     let mut k: u32 = 0;
-    while k < n {
+    while k < nodes {
         let from = 440 * (k as usize);
         let to = end_of(row.len(), from);
-        let forward = link(s, k + 1, n);
-        let back = back_link(s, k);
-        a = leaf_node(t, a, forward, back, &row[from..to]);
+        let forward = link(first, k + 1, nodes);
+        let back = back_link(first, k);
+        a = leaf_node(target, a, forward, back, &row[from..to]);
         k += 1;
     }
     a
@@ -43,31 +43,31 @@ pub fn taken(left: u32) -> u16
     if left <= 35 { left as u16 } else { 35 }
 }
 
-// The n nodes of an index level, from node s on, over its e children. The keys of two children that follow each other are `step` bytes apart in the row.
+// An index level over so many children, which start with `child`. The keys of two that follow each other are `step` bytes apart in the row.
 pub fn index_level(
-    t: &mut [u8],
+    target: &mut [u8],
     at: usize,
     row: &[u8],
     level: u8,
-    s: u32,
-    n: u32,
+    first: u32,
+    nodes: u32,
     child: u32,
-    e: u32,
+    children: u32,
     step: usize,
 ) -> usize
-    requires { ⌜ LevelIn (length (now t)) at (length (now row)) s n child e step ⌝ }
-    ensures { λ r. ⌜ Puts (now (t .entry)) (now (t .exit)) at (512 * n) (span 0 n (indexAt level s n child e step (now (row .entry)))) r ⌝ }
+    requires { ⌜ LevelIn (length (now target)) at (length (now row)) first nodes child children step ⌝ }
+    ensures { λ r. ⌜ Puts (now (target .entry)) (now (target .exit)) at (512 * nodes) (span 0 nodes (indexAt level first nodes child children step (now (row .entry)))) r ⌝ }
 {
     let jump = 35 * step;
     let mut a = at;
     let mut from = 0;
     let mut k: u32 = 0;
-    while k < n {
-        let c = taken(e - 35 * k);
-        let forward = link(s, k + 1, n);
-        let back = back_link(s, k);
+    while k < nodes {
+        let c = taken(children - 35 * k);
+        let forward = link(first, k + 1, nodes);
+        let back = back_link(first, k);
         a = index_node(
-            t,
+            target,
             a,
             forward,
             back,
@@ -84,23 +84,30 @@ pub fn index_level(
     a
 }
 
-// As many index levels as are left, the lowest of this level over e children.
-pub fn index_levels(t: &mut [u8], at: usize, row: &[u8], levels: u32, child: u32, e: u32) -> usize
-    requires { ⌜ (levels ≤ 8) × LevelsIn (length (now t)) (length (now row)) levels at child e 440 ⌝ }
-    ensures { λ r. ⌜ Puts (now (t .entry)) (now (t .exit)) at (levelsSize levels e) (indexLevels (now (row .entry)) levels 2 child e 440) r ⌝ }
+// So many index levels, the lowest of them over the leaves; each is over the one before.
+pub fn index_levels(
+    target: &mut [u8],
+    at: usize,
+    row: &[u8],
+    levels: u32,
+    child: u32,
+    children: u32,
+) -> usize
+    requires { ⌜ (levels ≤ 8) × LevelsIn (length (now target)) (length (now row)) levels at child children 440 ⌝ }
+    ensures { λ r. ⌜ Puts (now (target .entry)) (now (target .exit)) at (levelsSize levels children) (indexLevels (now (row .entry)) levels 2 child children 440) r ⌝ }
 {
     let mut a = at;
     let mut left = levels;
     let mut level: u8 = 2;
-    let mut c = child;
-    let mut n = e;
+    let mut lower = child;
+    let mut width = children;
     let mut step = 440;
     while left > 0 {
-        let s = c + n;
-        let over = (n + 34) / 35;
-        a = index_level(t, a, row, level, s, over, c, n, step);
-        c = s;
-        n = over;
+        let first = lower + width;
+        let nodes = (width + 34) / 35;
+        a = index_level(target, a, row, level, first, nodes, lower, width, step);
+        lower = first;
+        width = nodes;
         step = 35 * step;
         level += 1;
         left -= 1;

@@ -2,14 +2,13 @@
 -- Assumes nothing.
 use mathlib.Core.Path.{_≡_, refl, sym, ap, _∙_, fun-ext}
 use mathlib.Core.List.{List, [], _∷_, _++_, append-nil, append-assoc, List·Memᴰ·head, List·Memᴰ·eq-of-singleton}
-use Prim.Native.Nat.{ℕ, zero, suc, _+_, _-_, _*_, _≤_, _<_}
+use Prim.Native.Nat.{ℕ, zero, suc, _+_, _-_, _≤_, _<_}
 use native.Mathlib.Omega.{arith}
-use native.Mathlib.Decide.{ℕ-discrete, decLt}
 use lib.ListN.{length, length-append}
-use Rattle.btree.specs.Lists.{_∈_, span, gather, head0, lastOr, Distinct}
-use Rattle.btree.specs.Tree.{View, below, OnLevel, leavesAt, Linked, recordCount}
-use Rattle.btree.proofs.Lists.{span-mem, mem-span, gather-append, gather-span}
-use Rattle.shape.specs.Shape.{fanout, firstIn, groups, rowOf, entries, nodesAt, held, start}
+use Rattle.btree.specs.Lists.{_∈_, span, gather, lastOr, Distinct}
+use Rattle.btree.specs.Tree.{View, below, OnLevel, leavesAt, recordCount}
+use Rattle.btree.proofs.Lists.{span-mem, mem-span, gather-span}
+use Rattle.shape.specs.Shape.{firstIn, entries, nodesAt, held, start}
 use Rattle.shape.proofs.Shaped.{Deep, range, Shaped}
 use Rattle.shape.proofs.Shape.{first-zero, first-suc, nodes-all, nodes-low, held-full, held-rest, leaf-nodes}
 

@@ -1,9 +1,9 @@
 -- The nodes reached in the tree laid down are those with the lowest numbers.
 -- Assumes nothing.
-use mathlib.Core.Path.{_≡_, refl, sym, ap, _∙_}
+use mathlib.Core.Path.{_≡_, refl, ap, _∙_}
 use mathlib.Core.Logic.{⊎-elim}
-use mathlib.Core.List.{List, [], _∷_, _++_, List·Memᴰ·head, List·Memᴰ·tail, List·Memᴰ·cases-cons, List·Memᴰ·append-cases, Memᴰ·append-left, Memᴰ·append-right}
-use Prim.Native.Nat.{ℕ, zero, suc, _+_, _-_, _*_, _≤_, _<_}
+use mathlib.Core.List.{List·Memᴰ·head, List·Memᴰ·tail, List·Memᴰ·cases-cons, List·Memᴰ·append-cases, Memᴰ·append-left, Memᴰ·append-right}
+use Prim.Native.Nat.{ℕ, zero, suc, _+_, _-_, _≤_, _<_}
 use native.Mathlib.Omega.{arith}
 use native.Mathlib.Decide.{ℕ-discrete, decLt, decLe}
 use lib.ListN.{length, length-append}
@@ -11,7 +11,7 @@ use Rattle.btree.specs.Lists.{_∈_, span}
 use Rattle.btree.specs.Tree.{View, below, mapChain, treeNodes, reached}
 use Rattle.btree.proofs.Lists.{span-mem, mem-span}
 use Rattle.shape.specs.Shape.{nodesAt, start}
-use Rattle.shape.proofs.Shaped.{treeSize, Deep, range, Shaped}
+use Rattle.shape.proofs.Shaped.{treeSize, Deep, Shaped}
 use Rattle.shape.proofs.Shape.{start-low, start-mono, start-step, start-first, start-size}
 use Rattle.shape.proofs.Levels.{range-in, in-range, range-length, level}
 

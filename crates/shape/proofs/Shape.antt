@@ -1,7 +1,7 @@
 -- The arithmetic of the shape.
 -- Assumes nothing.
 use mathlib.Core.Path.{_≡_, refl, sym, ap, _∙_}
-use Prim.Native.Nat.{ℕ, zero, suc, _+_, _-_, _*_, _/_, _≤_, _<_, min}
+use Prim.Native.Nat.{ℕ, zero, suc, _+_, _-_, _*_, _/_, _≤_, _<_}
 use native.Mathlib.Nat.{suc-mul}
 use native.Mathlib.Omega.{arith}
 use native.Mathlib.Decide.{ℕ-discrete, decLe}
@@ -34,11 +34,6 @@ unfolding firstIn groups
 group-low zero e k p = omega arith
 group-low (suc h) e k p = omega arith
 
-pub group-high : (h e k : ℕ) → firstIn h k < e → k < groups h e
-unfolding firstIn groups
-group-high zero e k p = omega arith
-group-high (suc h) e k p = omega arith
-
 -- so many nodes hold all the entries
 pub group-all : (h e k : ℕ) → groups h e ≤ k → e ≤ firstIn h k
 unfolding firstIn groups
@@ -49,11 +44,6 @@ pub group-least : (h e k : ℕ) → e ≤ firstIn h k → groups h e ≤ k
 unfolding firstIn groups
 group-least zero e k p = omega arith
 group-least (suc h) e k p = omega arith
-
-pub group-mono : (h e f : ℕ) → e ≤ f → groups h e ≤ groups h f
-unfolding groups
-group-mono zero e f p = omega arith
-group-mono (suc h) e f p = omega arith
 
 pub row-mono : (h p q : ℕ) → p < q → rowOf h p < rowOf h q
 unfolding rowOf

@@ -2,18 +2,18 @@
 -- Assumes nothing.
 use mathlib.Core.Path.{_≡_, refl, sym, ap, _∙_, subst}
 use mathlib.Core.Logic.{_≢_}
-use mathlib.Core.List.{List, [], _∷_, List·Memᴰ·eq-of-singleton, Memᴰ·cast}
-use Prim.Native.Nat.{ℕ, zero, suc, _+_, _-_, _*_, _≤_, _<_}
+use mathlib.Core.List.{List, [], _∷_, List·Memᴰ·eq-of-singleton}
+use Prim.Native.Nat.{ℕ, zero, suc, _+_, _-_, _≤_, _<_}
 use native.Mathlib.Omega.{arith}
 use native.Mathlib.Decide.{ℕ-discrete}
 use lib.ListN.{length}
-use Rattle.btree.specs.Lists.{_∈_, span, gather, head0, lastOr, Distinct}
-use Rattle.btree.specs.Tree.{View, below, OnLevel, mapChain, leavesAt, LeadsTo, Linked, recordCount, SoundTree, LeafTotals}
+use Rattle.btree.specs.Lists.{_∈_, span, gather, head0, lastOr}
+use Rattle.btree.specs.Tree.{View, below, OnLevel, leavesAt, Linked, recordCount, SoundTree, LeafTotals}
 use Rattle.btree.proofs.Lists.{span-mem}
 use Rattle.shape.specs.Shape.{fanout, firstIn, rowOf, entries, nodesAt, held, start}
 use Rattle.shape.proofs.Shaped.{Deep, range, Shaped}
 use Rattle.shape.proofs.Shape.{first-suc, row-mono, row-le, row-step, row-inside, held-most, held-inside, held-some, start-low, start-mono, leaf-nodes, nodes-some}
-use Rattle.shape.proofs.Levels.{range-in, range-once, range-last, range-length, all-entries, span-move, counts-length, marks-length, level, leaves, Spot, spot}
+use Rattle.shape.proofs.Levels.{range-in, range-once, range-last, all-entries, span-move, counts-length, marks-length, level, leaves, Spot, spot}
 
 module _ (v : View) (K : ℕ → ℕ) (m r D : ℕ) (deep : Deep r D) (s : Shaped v K m r D) (rise : (p q : ℕ) → p < q → q < r → K p < K q) where
   open View v using (depth, root, count, child, forward, back)

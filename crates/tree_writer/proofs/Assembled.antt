@@ -1,18 +1,17 @@
 -- The parts as they are written, one after another, are the image laid down.
 -- Assumes nothing.
 use mathlib.Core.Path.{_≡_, refl, sym, ap, _∙_}
-use mathlib.Core.List.{List, [], _∷_, _++_, append-assoc, append-nil}
-use Prim.Native.Nat.{ℕ, zero, suc, _+_, _-_, _*_, _/_, _%_, _≤_, _<_}
-use native.Mathlib.Nat.{suc-mul}
+use mathlib.Core.List.{List, [], _∷_, _++_, append-assoc}
+use Prim.Native.Nat.{ℕ, zero, suc, _+_, _-_, _*_, _/_, _≤_, _<_}
 use native.Mathlib.Omega.{arith}
 use lib.ListN.{length, replicate, replicate-append-replicate}
-use Rattle.btree.specs.Lists.{span, gather}
+use Rattle.btree.specs.Lists.{span}
 use Rattle.btree.proofs.Lists.{gather-append}
-use Rattle.shape.specs.Shape.{recordsIn, firstIn, rowOf, entries, nodesAt, start, levels}
-use Rattle.shape.proofs.Shape.{leaf-nodes, start-first, start-low, start-mono, start-step, nodes-some, levels-most, levels-deep, records-few}
+use Rattle.shape.specs.Shape.{recordsIn, firstIn, rowOf, nodesAt, start, levels}
+use Rattle.shape.proofs.Shape.{leaf-nodes, start-first, start-low, start-step, nodes-some, levels-most, levels-deep, records-few}
 use Rattle.shape.proofs.Shaped.{Deep}
 use Rattle.laid.specs.Laid.{mapsFor, mapNode, header, node, levelNodes, nodesOf, joined, laid}
-use Rattle.level_writer.specs.Parts.{LeavesOf, leavesFrom, indexLevels, levelsSize, LevelsIn}
+use Rattle.level_writer.specs.Parts.{leavesFrom, indexLevels, levelsSize, LevelsIn}
 use Rattle.tree_writer.specs.Room.{FrontIn, TreeIn, Room}
 use Rattle.tree_writer.proofs.Upper.{joined-ones, levels-is, size-is, levels-in}
 

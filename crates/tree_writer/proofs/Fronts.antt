@@ -1,9 +1,9 @@
 -- The leaves that the header names.
 -- Assumes nothing.
-use mathlib.Core.Path.{_≡_, refl, sym, ap, _∙_}
-use Prim.Native.Nat.{ℕ, zero, suc, _+_, _-_, _<_}
+use mathlib.Core.Path.{_≡_, sym}
+use Prim.Native.Nat.{ℕ, zero, suc, _+_, _<_}
 use native.Mathlib.Omega.{arith}
-use Rattle.shape.specs.Shape.{nodesAt, start}
+use Rattle.shape.specs.Shape.{nodesAt}
 use Rattle.shape.proofs.Shape.{start-first}
 use Rattle.laid.specs.Laid.{firstFor, lastFor}
 

@@ -8,7 +8,6 @@ use Rattle.btree.proofs.Decisions.{cond-yes, cond-no}
 use Rattle.shape.specs.Shape.{nodesAt, start, above, levels}
 use Rattle.shape.proofs.Shape.{leaf-nodes, index-nodes, start-first, start-step}
 use Rattle.laid.specs.Laid.{mapsFor, rootFor}
-use Rattle.tree_writer.specs.declared.plan.Plan.{Plan}
 use Rattle.tree_writer.specs.Plan.{PlanOf}
 
 pub levels-from : (r : ℕ) → 0 < r → 1 + above 7 (nodesAt r 0) ≡ levels r

@@ -2,16 +2,16 @@
 -- Assumes nothing.
 use mathlib.Core.Path.{_≡_, refl, sym, ap, _∙_}
 use mathlib.Core.List.{List, [], _∷_, _++_}
-use Prim.Native.Nat.{ℕ, zero, suc, _+_, _-_, _*_, _/_, _≤_, _<_, min}
-use native.Mathlib.Nat.{mul-assoc, mul-left-comm}
+use Prim.Native.Nat.{ℕ, zero, suc, _+_, _-_, _*_, _≤_, _<_, min}
+use native.Mathlib.Nat.{mul-assoc}
 use native.Mathlib.Omega.{arith}
 use native.Mathlib.Decide.{decLt}
 use lib.ListN.{take, drop}
 use Rattle.put.specs.Put.{be32}
 use Rattle.btree.specs.Decide.{cond}
-use Rattle.btree.specs.Lists.{span, gather}
+use Rattle.btree.specs.Lists.{span}
 use Rattle.btree.proofs.Lists.{gather-append}
-use Rattle.shape.specs.Shape.{fanout, firstIn, rowOf, entries, nodesAt, held, start}
+use Rattle.shape.specs.Shape.{fanout, firstIn, rowOf, nodesAt, held, start}
 use Rattle.shape.proofs.Shape.{index-nodes, row-inside, row-linear, row-scale, start-step, start-mono}
 use Rattle.shape.proofs.Shaped.{Deep}
 use Rattle.shape.proofs.Levels.{span-same}

@@ -1,7 +1,7 @@
 -- The numbers of a fresh tree, and when a target has room for it.
 -- Assumes nothing.
 use mathlib.Core.Path.{_≡_}
-use Prim.Native.Nat.{ℕ, _+_, _≤_}
+use Prim.Native.Nat.{ℕ}
 use Rattle.shape.specs.Shape.{start, levels}
 use Rattle.laid.specs.Laid.{rootFor}
 use Rattle.tree_writer.specs.declared.plan.Plan.{Plan}

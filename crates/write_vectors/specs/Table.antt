@@ -7,7 +7,7 @@ use lib.ListN.{replicate, set}
 use Rattle.btree.specs.Lists.{span, gather}
 use Rattle.btree.specs.Places.{imageStart}
 use Rattle.btree.specs.Walk.{fails}
-use Rattle.vectors.specs.Build.{put, be16, be32, header, node, keyBytes, onePair, linkedHeader, E1, L1}
+use Rattle.vectors.specs.Build.{put, be16, be32, header, node, keyBytes, onePair, E1, L1}
 use Rattle.writing.specs.Written.{writeAnswer, written}
 
 pub record Case : Type 0 where

@@ -12,19 +12,17 @@ use Rattle.btree.specs.declared.Verdict.{Verdict}
 use Rattle.btree.specs.Places.{imageStart}
 use Rattle.btree.specs.Decide.{says, ifZero}
 use Rattle.btree.specs.Walk.{fine, fails, unless}
-use Rattle.btree.specs.Header.{mapNodes}
 use Rattle.btree.specs.Image.{Lengths}
 use Rattle.btree.specs.Tests.{decLengths}
-use Rattle.btree.proofs.Decisions.{says-yes, says-no, said}
+use Rattle.btree.proofs.Decisions.{says-yes, says-no}
 use Rattle.frame.specs.Form.{hfs, layoutOf}
 use Rattle.frame.proofs.Forms.{hfs-listed, fair}
 use Rattle.reader.proofs.Soundness.{verdict-iff}
-use Rattle.extents.specs.Reader.{Sound, needed, checked}
 use Rattle.extents.proofs.Laws.{checked-says}
 use Rattle.shape.proofs.Levels.{range-length}
 use Rattle.shape.specs.Shape.{recordsIn}
 use Rattle.laid.specs.Laid.{laid, wanted}
-use Rattle.leaf_rows.specs.Row.{RowLaw, decRowLaw, leafRow}
+use Rattle.leaf_rows.specs.Row.{RowLaw, decRowLaw}
 use Rattle.laid.proofs.Result.{row-length, sound-maps, sound-wants, laid-length, laid-maps, laid-sound, laid-row, laid-least}
 use Rattle.writing.specs.Written.{nodesIn, writeAnswer, written}
 use Rattle.writing.specs.Demands.{Holds, IsFresh, WriteSays}

@@ -1,13 +1,12 @@
 -- `keys_right` meets its contract. Assumes nothing.
 use mathlib.Core.Path.{_≡_, refl, sym, ap, _∙_}
-use Prim.Native.Nat.{ℕ, suc, _+_, _-_, _*_, _<_, _≤_}
+use Prim.Native.Nat.{_+_, _-_, _*_, _≤_}
 use native.Mathlib.Omega.{arith}
 use borrow.Author.Tests.{not-true, not-false, ltb-true, ltb-false}
 use borrow.Author.Needs.{needs}
 use Rattle.btree.proofs.Telling.{tells-yes, tells-no, told-no}
 use Rattle.frame.specs.Form.{hfs}
 use Rattle.extent_keys.specs.Key.{rankOf}
-use Rattle.extent_nodes.specs.Records.{KeyLaw}
 use Rattle.formats.specs.Format.{rankAt}
 use Rattle.leaf_rows.specs.Row.{KeysRight}
 use Rattle.leaf_rows.proofs.Records.{none-right, first-right, more-right, not-lawful, not-above}

@@ -1,6 +1,5 @@
 -- `row_right` meets its contract. Assumes nothing.
 use mathlib.Core.Path.{sym}
-use native.Mathlib.Omega.{arith}
 use borrow.Author.Needs.{needs}
 use Rattle.btree.proofs.Decisions.{says-no}
 use Rattle.btree.proofs.Telling.{tells-says}

@@ -1,5 +1,6 @@
+-- `index_level` meets its contract. Assumes nothing.
 use mathlib.Core.Path.{_≡_, refl, sym, ap, _∙_}
-use Prim.Native.Nat.{ℕ, _+_, _-_, _*_, _≤_}
+use Prim.Native.Nat.{_+_, _-_, _*_, _≤_}
 use native.Mathlib.Omega.{arith}
 use lib.ListN.{length}
 use Rattle.put.specs.Put.{put}
@@ -11,12 +12,6 @@ use Rattle.level_writer.proofs.IndexNodes.{jump-on, some-left, from-ins
 use borrow.Author.Needs.{needs}
 use Rattle.level_writer.proofs.index_level.Statement.{statement}
 use Rattle.level_writer.proofs.index_level.Tie as tie
-use Rattle.level_writer.proofs.index_level.Reads as reads
-use Rattle.level_writer.proofs.index_level.Lts as lts
-use Rattle.level_writer.proofs.taken.Reads as taken-reads
-use Rattle.node_writer.proofs.back_link.Reads as back-link-reads
-use Rattle.node_writer.proofs.index_node.Reads as index-node-reads
-use Rattle.node_writer.proofs.link.Reads as link-reads
 
 abbrev Inv-loop : tie.InvT-loop
 Inv-loop t₀ at row level s n child e step jump a₀ from₀ k₀ t a from k =
@@ -89,7 +84,7 @@ loop-again c =
     let s = c .before .before .before .before .before .before .before .before .before .before .before .args in (
       search needs,
       turn _ (c .before .before .index-node .ensures)
-          ∙ ap (put (l .t) (l .a)) (level-on (s .level) (s .s) (s .n) (s .child) (s .e) (s .step) (s .row .now) (l .k) (c .before .before .before .before .before .link .result) (c .before .before .before .before .back-link .result)
+          ∙ ap (put (l .target) (l .a)) (level-on (s .level) (s .first) (s .nodes) (s .child) (s .children) (s .step) (s .row .now) (l .k) (c .before .before .before .before .before .link .result) (c .before .before .before .before .back-link .result)
           (c .before .before .before .before .before .before .taken .result) (l .from) (c .before .before .before .before .before .before .before .loop-test .taken) (c .before .before .before .before .before .before .taken .ensures) (c .before .before .before .before .before .link .ensures) (c .before .before .before .before .back-link .ensures) (l .inv .3))
           ∙ l .inv .1,
       search needs,
@@ -105,7 +100,7 @@ returns c =
     let l = c .before .loop in
     let s = c .before .before .before .before in
     record {
-      bytes = sym (put-none (l .t) (l .a)) ∙ ap (put (l .t) (l .a)) (sym (span-end _ _ (l .k) (c .loop-test .left))) ∙ l .inv .1;
+      bytes = sym (put-none (l .target) (l .a)) ∙ ap (put (l .target) (l .a)) (sym (span-end _ _ (l .k) (c .loop-test .left))) ∙ l .inv .1;
       next = omega arith;
       long = level-long (s .args .level) (s .args .row .now) (s .pre);
     }

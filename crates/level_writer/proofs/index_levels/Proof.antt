@@ -1,5 +1,6 @@
-use mathlib.Core.Path.{_≡_, refl, sym, ap, _∙_, subst}
-use Prim.Native.Nat.{ℕ, _+_, _-_, _*_, _/_, _≤_}
+-- `index_levels` meets its contract. Assumes nothing.
+use mathlib.Core.Path.{_≡_, refl, sym, ap, _∙_}
+use Prim.Native.Nat.{_+_}
 use native.Mathlib.Omega.{arith}
 use lib.ListN.{length}
 use Rattle.put.specs.Put.{put}
@@ -9,9 +10,6 @@ use Rattle.level_writer.proofs.Levels.{levels-on, levels-end, size-on, 
 use borrow.Author.Needs.{needs}
 use Rattle.level_writer.proofs.index_levels.Statement.{statement}
 use Rattle.level_writer.proofs.index_levels.Tie as tie
-use Rattle.level_writer.proofs.index_levels.Reads as reads
-use Rattle.level_writer.proofs.index_levels.Lts as lts
-use Rattle.level_writer.proofs.index_level.Reads as index-level-reads
 
 abbrev Inv-loop : tie.InvT-loop
 Inv-loop t₀ at row levels child e a₀ left₀ level₀ c₀ n₀ step₀ t a left level c n step =
@@ -24,13 +22,13 @@ abbrev μ-loop : tie.MeasureT-loop
 loop-holds : tie.Need-loop-holds Inv-loop μ-loop
 loop-holds c = (refl, refl, refl, c .before .before .pre .1, refl)
 
-add-s : tie.Need-add-s Inv-loop μ-loop
-add-s c =
+add-first : tie.Need-add-first Inv-loop μ-loop
+add-first c =
     let h = this-level _ _ (c .before .loop .left) _ _ _ _ (c .loop-test .taken) (c .before .loop .inv .3) in
     omega (arith, h .children)
 
-add-over : tie.Need-add-over Inv-loop μ-loop
-add-over c =
+add-nodes : tie.Need-add-nodes Inv-loop μ-loop
+add-nodes c =
     let h = this-level _ _ (c .before .loop .left) _ _ _ _ (c .loop-test .taken) (c .before .loop .inv .3) in
     omega (arith, h .children)
 
@@ -58,9 +56,9 @@ loop-again c =
     let l = c .before .before .before .before .before .loop in
     let u = c .before .before .before .before .loop-test .taken in
     let p = c .before .before .index-level .ensures in
-    let z = size-on (l .left) (l .n) u in (
+    let z = size-on (l .left) (l .width) u in (
       search needs,
-      turn _ p ∙ ap (put (l .t) (l .a)) (levels-on _ (l .left) (l .level) (l .c) (l .n) (l .step) u) ∙ l .inv .1,
+      turn _ p ∙ ap (put (l .target) (l .a)) (levels-on _ (l .left) (l .level) (l .lower) (l .width) (l .step) u) ∙ l .inv .1,
       omega (arith, p .next, l .inv .2),
       rw (p .next) (next-levels _ _ (l .left) _ _ _ _ u (l .inv .3)),
       c .before .before .index-level .kept .0 ∙ l .inv .4,
@@ -74,8 +72,8 @@ returns c =
     let l = c .before .loop in
     let s = c .before .before .before .before in
     record {
-      bytes = sym (put-none (l .t) (l .a)) ∙ ap (put (l .t) (l .a)) (sym (levels-end _ (l .left) (l .level) (l .c) (l .n) (l .step) (c .loop-test .left))) ∙ l .inv .1;
-      next = omega (arith, l .inv .2, size-end (l .left) (l .n) (c .loop-test .left));
+      bytes = sym (put-none (l .target) (l .a)) ∙ ap (put (l .target) (l .a)) (sym (levels-end _ (l .left) (l .level) (l .lower) (l .width) (l .step) (c .loop-test .left))) ∙ l .inv .1;
+      next = omega (arith, l .inv .2, size-end (l .left) (l .width) (c .loop-test .left));
       long = levels-long _ _ _ _ _ _ _ _ (s .pre .1);
     }
 
@@ -86,8 +84,8 @@ index-levels-spec =
     Inv-loop
     μ-loop
     loop-holds
-    add-s
-    add-over
+    add-first
+    add-nodes
     index-level-requires
     mul-step
     add-level

@@ -1,12 +1,9 @@
+-- `header_back` meets its contract. Assumes nothing.
 use Rattle.put.proofs.Laws.{then}
 use Rattle.map_writer.specs.Parts.{numbers}
 use borrow.Author.Needs.{needs}
 use Rattle.map_writer.proofs.header_back.Statement.{statement}
 use Rattle.map_writer.proofs.header_back.Tie as tie
-use Rattle.map_writer.proofs.header_back.Reads as reads
-use Rattle.map_writer.proofs.header_back.Lts as lts
-use Rattle.put.proofs.half.Reads as half-reads
-use Rattle.put.proofs.word.Reads as word-reads
 
 word-requires : tie.Need-word-requires
 word-requires c κs = search needs

@@ -1,3 +1,4 @@
+-- `header_front` meets its contract. Assumes nothing.
 use mathlib.Core.Path.{ap}
 use mathlib.Core.List.{_++_}
 use Rattle.put.specs.Put.{be16, be32}
@@ -7,12 +8,6 @@ use Rattle.map_writer.specs.Parts.{front}
 use borrow.Author.Needs.{needs}
 use Rattle.map_writer.proofs.header_front.Statement.{statement}
 use Rattle.map_writer.proofs.header_front.Tie as tie
-use Rattle.map_writer.proofs.header_front.Reads as reads
-use Rattle.map_writer.proofs.header_front.Lts as lts
-use Rattle.node_writer.proofs.describe.Reads as describe-reads
-use Rattle.node_writer.proofs.link.Reads as link-reads
-use Rattle.put.proofs.half.Reads as half-reads
-use Rattle.put.proofs.word.Reads as word-reads
 
 link-requires : tie.Need-link-requires
 link-requires c κs = search needs

@@ -1,15 +1,9 @@
+-- `header_node` meets its contract. Assumes nothing.
 use Rattle.put.proofs.Laws.{then, same}
 use Rattle.map_writer.proofs.Steps.{header-is}
 use borrow.Author.Needs.{needs}
 use Rattle.map_writer.proofs.header_node.Statement.{statement}
 use Rattle.map_writer.proofs.header_node.Tie as tie
-use Rattle.map_writer.proofs.header_node.Reads as reads
-use Rattle.map_writer.proofs.header_node.Lts as lts
-use Rattle.map_writer.proofs.header_back.Reads as header-back-reads
-use Rattle.map_writer.proofs.header_front.Reads as header-front-reads
-use Rattle.map_writer.proofs.header_words.Reads as header-words-reads
-use Rattle.map_writer.proofs.map_part.Reads as map-part-reads
-use Rattle.put.proofs.zeros.Reads as zeros-reads
 
 header-front-requires : tie.Need-header-front-requires
 header-front-requires c κs = search needs

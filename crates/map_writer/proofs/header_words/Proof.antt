@@ -1,10 +1,8 @@
+-- `header_words` meets its contract. Assumes nothing.
 use Rattle.put.proofs.Laws.{then}
 use borrow.Author.Needs.{needs}
 use Rattle.map_writer.proofs.header_words.Statement.{statement}
 use Rattle.map_writer.proofs.header_words.Tie as tie
-use Rattle.map_writer.proofs.header_words.Reads as reads
-use Rattle.map_writer.proofs.header_words.Lts as lts
-use Rattle.put.proofs.half.Reads as half-reads
 
 half-requires : tie.Need-half-requires
 half-requires c κs = search needs

@@ -1,10 +1,9 @@
+-- `map_byte` meets its contract. Assumes nothing.
 use native.Mathlib.Omega.{arith}
 use Rattle.map_writer.proofs.Steps.{byte-none, byte-all, byte-some}
 use borrow.Author.Needs.{needs}
 use Rattle.map_writer.proofs.map_byte.Statement.{statement}
 use Rattle.map_writer.proofs.map_byte.Tie as tie
-use Rattle.map_writer.proofs.map_byte.Reads as reads
-use Rattle.map_writer.proofs.map_byte.Lts as lts
 
 mul-if1 : tie.Need-mul-if1
 mul-if1 c = search needs

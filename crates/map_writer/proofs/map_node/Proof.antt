@@ -1,15 +1,10 @@
+-- `map_node` meets its contract. Assumes nothing.
 use Rattle.put.proofs.Laws.{then, same}
 use Rattle.laid.specs.Laid.{mapNode}
 use Rattle.map_writer.proofs.Steps.{map-linked}
 use borrow.Author.Needs.{needs}
 use Rattle.map_writer.proofs.map_node.Statement.{statement}
 use Rattle.map_writer.proofs.map_node.Tie as tie
-use Rattle.map_writer.proofs.map_node.Reads as reads
-use Rattle.map_writer.proofs.map_node.Lts as lts
-use Rattle.node_writer.proofs.describe.Reads as describe-reads
-use Rattle.node_writer.proofs.link.Reads as link-reads
-use Rattle.map_writer.proofs.map_part.Reads as map-part-reads
-use Rattle.put.proofs.half.Reads as half-reads
 
 add-link : tie.Need-add-link
 add-link c = search needs

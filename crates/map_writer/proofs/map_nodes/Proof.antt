@@ -1,5 +1,6 @@
+-- `map_nodes` meets its contract. Assumes nothing.
 use mathlib.Core.Path.{_≡_, refl, sym, ap, _∙_}
-use Prim.Native.Nat.{ℕ, _+_, _-_, _*_, _≤_}
+use Prim.Native.Nat.{_+_, _-_, _*_, _≤_}
 use native.Mathlib.Omega.{arith}
 use lib.ListN.{length}
 use Rattle.put.specs.Put.{put}
@@ -11,9 +12,6 @@ use Rattle.map_writer.proofs.Steps.{maps-long}
 use borrow.Author.Needs.{needs}
 use Rattle.map_writer.proofs.map_nodes.Statement.{statement}
 use Rattle.map_writer.proofs.map_nodes.Tie as tie
-use Rattle.map_writer.proofs.map_nodes.Reads as reads
-use Rattle.map_writer.proofs.map_nodes.Lts as lts
-use Rattle.map_writer.proofs.map_node.Reads as map-node-reads
 
 abbrev Inv-loop : tie.InvT-loop
 Inv-loop t₀ at m used a₀ i₀ t a i =
@@ -39,7 +37,7 @@ loop-again c =
     let l = c .before .before .before .before .before .loop in (
       search needs,
       turn _ (c .before .before .map-node .ensures)
-          ∙ ap (put (l .t) (l .a)) (span-on _ _ (l .i) (c .before .before .before .before .loop-test .taken))
+          ∙ ap (put (l .target) (l .a)) (span-on _ _ (l .i) (c .before .before .before .before .loop-test .taken))
           ∙ l .inv .1,
       search needs,
       c .before .before .map-node .kept .0 ∙ l .inv .3,
@@ -52,9 +50,9 @@ returns : tie.Need-returns Inv-loop μ-loop
 returns c =
     let l = c .before .loop in
     record {
-      bytes = sym (put-none (l .t) (l .a)) ∙ ap (put (l .t) (l .a)) (sym (span-end _ _ (l .i) (c .loop-test .left))) ∙ l .inv .1;
+      bytes = sym (put-none (l .target) (l .a)) ∙ ap (put (l .target) (l .a)) (sym (span-end _ _ (l .i) (c .loop-test .left))) ∙ l .inv .1;
       next = omega arith;
-      long = maps-long (c .before .before .before .args .m) (c .before .before .before .args .used);
+      long = maps-long (c .before .before .before .args .maps) (c .before .before .before .args .used);
     }
 
 pub map-nodes-spec : {M : Type 1} → statement M

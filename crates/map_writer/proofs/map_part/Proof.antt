@@ -1,5 +1,6 @@
+-- `map_part` meets its contract. Assumes nothing.
 use mathlib.Core.Path.{_≡_, refl, sym, ap, _∙_}
-use Prim.Native.Nat.{ℕ, _+_, _-_, _*_, _≤_}
+use Prim.Native.Nat.{_+_, _-_, _≤_}
 use native.Mathlib.Omega.{arith}
 use lib.ListN.{length}
 use Rattle.put.specs.Put.{put}
@@ -9,10 +10,6 @@ use Rattle.map_writer.proofs.Steps.{part-on, part-end, part-long, part-
 use borrow.Author.Needs.{needs}
 use Rattle.map_writer.proofs.map_part.Statement.{statement}
 use Rattle.map_writer.proofs.map_part.Tie as tie
-use Rattle.map_writer.proofs.map_part.Reads as reads
-use Rattle.map_writer.proofs.map_part.Lts as lts
-use Rattle.map_writer.proofs.map_byte.Reads as map-byte-reads
-use Rattle.put.proofs.byte.Reads as byte-reads
 
 abbrev Inv-loop : tie.InvT-loop
 Inv-loop t₀ at used from n a₀ i₀ t a i =
@@ -44,7 +41,7 @@ loop-again c =
     let l = c .before .before .before .before .before .before .loop in (
       search needs,
       turn _ (c .before .before .byte .ensures)
-          ∙ rw (c .before .before .before .before .map-byte .ensures) (ap (put (l .t) (l .a)) (sym (part-on _ _ _ (l .i) (c .before .before .before .before .before .loop-test .taken))))
+          ∙ rw (c .before .before .before .before .map-byte .ensures) (ap (put (l .target) (l .a)) (sym (part-on _ _ _ (l .i) (c .before .before .before .before .before .loop-test .taken))))
           ∙ l .inv .1,
       search needs,
       c .before .before .byte .kept .0 ∙ l .inv .3,
@@ -57,7 +54,7 @@ returns : tie.Need-returns Inv-loop μ-loop
 returns c =
     let l = c .before .loop in
     record {
-      bytes = sym (put-none (l .t) (l .a)) ∙ ap (put (l .t) (l .a)) (sym (part-end _ _ _ (l .i) (c .loop-test .left))) ∙ l .inv .1;
+      bytes = sym (put-none (l .target) (l .a)) ∙ ap (put (l .target) (l .a)) (sym (part-end _ _ _ (l .i) (c .loop-test .left))) ∙ l .inv .1;
       next = omega arith;
       long = part-long _ _ _;
     }

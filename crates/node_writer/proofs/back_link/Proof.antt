@@ -1,10 +1,9 @@
+-- `back_link` meets its contract. Assumes nothing.
 use native.Mathlib.Omega.{arith}
 use Rattle.node_writer.proofs.Steps.{back-zero, back-suc}
 use borrow.Author.Needs.{needs}
 use Rattle.node_writer.proofs.back_link.Statement.{statement}
 use Rattle.node_writer.proofs.back_link.Tie as tie
-use Rattle.node_writer.proofs.back_link.Reads as reads
-use Rattle.node_writer.proofs.back_link.Lts as lts
 
 sub-result : tie.Need-sub-result
 sub-result c = search needs

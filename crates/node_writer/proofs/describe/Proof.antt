@@ -1,13 +1,9 @@
+-- `describe` meets its contract. Assumes nothing.
 use Rattle.put.proofs.Laws.{then}
 use Rattle.laid.specs.Laid.{described}
 use borrow.Author.Needs.{needs}
 use Rattle.node_writer.proofs.describe.Statement.{statement}
 use Rattle.node_writer.proofs.describe.Tie as tie
-use Rattle.node_writer.proofs.describe.Reads as reads
-use Rattle.node_writer.proofs.describe.Lts as lts
-use Rattle.put.proofs.byte.Reads as byte-reads
-use Rattle.put.proofs.half.Reads as half-reads
-use Rattle.put.proofs.word.Reads as word-reads
 
 word-requires : tie.Need-word-requires
 word-requires c κs = search needs

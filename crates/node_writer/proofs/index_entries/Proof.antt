@@ -1,5 +1,6 @@
+-- `index_entries` meets its contract. Assumes nothing.
 use mathlib.Core.Path.{_≡_, refl, sym, ap, _∙_}
-use Prim.Native.Nat.{ℕ, _+_, _-_, _*_, _≤_}
+use Prim.Native.Nat.{_+_, _-_, _*_, _≤_}
 use native.Mathlib.Nat.{sub-zero, add-zero}
 use native.Mathlib.Omega.{arith}
 use lib.ListN.{length}
@@ -10,10 +11,6 @@ use Rattle.node_writer.proofs.Steps.{indexed-on, indexed-end, indexed-l
 use borrow.Author.Needs.{needs}
 use Rattle.node_writer.proofs.index_entries.Statement.{statement}
 use Rattle.node_writer.proofs.index_entries.Tie as tie
-use Rattle.node_writer.proofs.index_entries.Reads as reads
-use Rattle.node_writer.proofs.index_entries.Lts as lts
-use Rattle.node_writer.proofs.key_part.Reads as key-part-reads
-use Rattle.put.proofs.word.Reads as word-reads
 
 abbrev Inv-loop : tie.InvT-loop
 Inv-loop t₀ at row c from step child a₀ f₀ i₀ t a f i =
@@ -37,11 +34,11 @@ add-word c = search needs
 word-requires : tie.Need-word-requires Inv-loop μ-loop
 word-requires c κs = search needs
 
-add-f : tie.Need-add-f Inv-loop μ-loop
-add-f c =
+add-place : tie.Need-add-place Inv-loop μ-loop
+add-place c =
     let l = c .before .before .before .before .before .before .before .before .before .loop in
     let s = c .before .before .before .before .before .before .before .before .before .before .before .before in
-    omega (arith, step-most (l .i) (s .args .c) (s .args .step) (c .before .before .before .before .before .before .before .before .loop-test .taken), s .pre .2 .end, l .inv .3)
+    omega (arith, step-most (l .i) (s .args .count) (s .args .step) (c .before .before .before .before .before .before .before .before .loop-test .taken), s .pre .2 .end, l .inv .3)
 
 add-i : tie.Need-add-i Inv-loop μ-loop
 add-i c = search needs
@@ -55,7 +52,7 @@ loop-again c =
     let s = c .before .before .before .before .before .before .before .before .before .before .before .before .args in (
       search needs,
       turn _ (then (c .before .before .before .before .before .before .key-part .ensures) (c .before .before .word .ensures))
-          ∙ ap (put (l .t) (l .a)) (sym (indexed-on (s .c) (l .i) (l .f) (s .step) (s .child) (s .row .now) (c .before .before .before .before .before .before .before .before .loop-test .taken)))
+          ∙ ap (put (l .target) (l .a)) (sym (indexed-on (s .count) (l .i) (l .place) (s .step) (s .child) (s .row .now) (c .before .before .before .before .before .before .before .before .loop-test .taken)))
           ∙ l .inv .1,
       search needs,
       ap (λ x. x + s .step) (l .inv .3) ∙ step-on (s .from) (l .i) (s .step),
@@ -70,7 +67,7 @@ returns c =
     let l = c .before .loop in
     let s = c .before .before .before .before in
     record {
-      bytes = sym (put-none (l .t) (l .a)) ∙ ap (put (l .t) (l .a)) (sym (indexed-end _ (l .i) (l .f) _ _ _ (c .loop-test .left))) ∙ l .inv .1;
+      bytes = sym (put-none (l .target) (l .a)) ∙ ap (put (l .target) (l .a)) (sym (indexed-end _ (l .i) (l .place) _ _ _ (c .loop-test .left))) ∙ l .inv .1;
       next = omega arith;
       long = indexed-long _ _ _ _ _ (s .pre .2 .reach);
     }
@@ -85,7 +82,7 @@ index-entries-spec =
     key-part-requires
     add-word
     word-requires
-    add-f
+    add-place
     add-i
     loop-less
     loop-again

@@ -1,14 +1,10 @@
+-- `index_node` meets its contract. Assumes nothing.
 use native.Mathlib.Omega.{arith}
 use Rattle.put.proofs.Laws.{then, sized}
 use Rattle.node_writer.specs.Parts.{indexNode}
 use borrow.Author.Needs.{needs}
 use Rattle.node_writer.proofs.index_node.Statement.{statement}
 use Rattle.node_writer.proofs.index_node.Tie as tie
-use Rattle.node_writer.proofs.index_node.Reads as reads
-use Rattle.node_writer.proofs.index_node.Lts as lts
-use Rattle.node_writer.proofs.describe.Reads as describe-reads
-use Rattle.node_writer.proofs.index_entries.Reads as index-entries-reads
-use Rattle.node_writer.proofs.node_end.Reads as node-end-reads
 
 describe-requires : tie.Need-describe-requires
 describe-requires c κs = search needs

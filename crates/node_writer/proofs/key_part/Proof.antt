@@ -1,3 +1,4 @@
+-- `key_part` meets its contract. Assumes nothing.
 use mathlib.Core.Path.{ap, _∙_}
 use native.Mathlib.Omega.{arith}
 use lib.ListN.{length}
@@ -6,9 +7,6 @@ use Rattle.node_writer.proofs.Steps.{key-cut, key-long}
 use borrow.Author.Needs.{needs}
 use Rattle.node_writer.proofs.key_part.Statement.{statement}
 use Rattle.node_writer.proofs.key_part.Tie as tie
-use Rattle.node_writer.proofs.key_part.Reads as reads
-use Rattle.node_writer.proofs.key_part.Lts as lts
-use Rattle.put.proofs.copy.Reads as copy-reads
 
 add-end : tie.Need-add-end
 add-end c = search needs

@@ -1,17 +1,13 @@
+-- `leaf_node` meets its contract. Assumes nothing.
 use native.Mathlib.Omega.{arith}
 use Rattle.put.proofs.Laws.{then, sized}
 use Rattle.node_writer.specs.Parts.{leafNode}
 use borrow.Author.Needs.{needs}
 use Rattle.node_writer.proofs.leaf_node.Statement.{statement}
 use Rattle.node_writer.proofs.leaf_node.Tie as tie
-use Rattle.node_writer.proofs.leaf_node.Reads as reads
-use Rattle.node_writer.proofs.leaf_node.Lts as lts
-use Rattle.node_writer.proofs.describe.Reads as describe-reads
-use Rattle.node_writer.proofs.node_end.Reads as node-end-reads
-use Rattle.put.proofs.copy.Reads as copy-reads
 
-cast-c : tie.Need-cast-c
-cast-c c = search needs
+cast-count : tie.Need-cast-count
+cast-count c = search needs
 
 describe-requires : tie.Need-describe-requires
 describe-requires c κs = search needs
@@ -39,7 +35,7 @@ pub leaf-node-spec : {M : Type 1} → statement M
 leaf-node-spec =
     tie.close
     (tie.spec
-    cast-c
+    cast-count
     describe-requires
     copy-requires
     mul-node-end

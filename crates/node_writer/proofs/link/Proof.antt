@@ -1,3 +1,4 @@
+-- `link` meets its contract. Assumes nothing.
 use mathlib.Core.Path.{sym}
 use native.Mathlib.Omega.{arith}
 use native.Mathlib.Decide.{decLt}
@@ -5,8 +6,6 @@ use Rattle.btree.proofs.Decisions.{cond-yes, cond-no}
 use borrow.Author.Needs.{needs}
 use Rattle.node_writer.proofs.link.Statement.{statement}
 use Rattle.node_writer.proofs.link.Tie as tie
-use Rattle.node_writer.proofs.link.Reads as reads
-use Rattle.node_writer.proofs.link.Lts as lts
 
 add-result : tie.Need-add-result
 add-result c = search needs

@@ -1,3 +1,4 @@
+-- `node_end` meets its contract. Assumes nothing.
 use native.Mathlib.Omega.{arith}
 use Rattle.put.proofs.Laws.{then, same, sized}
 use Rattle.node_writer.specs.Parts.{framed}
@@ -5,10 +6,6 @@ use Rattle.node_writer.proofs.Steps.{gap-is}
 use borrow.Author.Needs.{needs}
 use Rattle.node_writer.proofs.node_end.Statement.{statement}
 use Rattle.node_writer.proofs.node_end.Tie as tie
-use Rattle.node_writer.proofs.node_end.Reads as reads
-use Rattle.node_writer.proofs.node_end.Lts as lts
-use Rattle.node_writer.proofs.offset_words.Reads as offset-words-reads
-use Rattle.put.proofs.zeros.Reads as zeros-reads
 
 sub-gap : tie.Need-sub-gap
 sub-gap c = search needs

@@ -1,5 +1,6 @@
+-- `offset_words` meets its contract. Assumes nothing.
 use mathlib.Core.Path.{_≡_, refl, sym, ap, _∙_}
-use Prim.Native.Nat.{ℕ, _+_, _-_, _*_, _≤_}
+use Prim.Native.Nat.{_+_, _-_, _*_, _≤_}
 use native.Mathlib.Omega.{arith}
 use lib.ListN.{length}
 use mathlib.Core.List.{_++_}
@@ -10,9 +11,6 @@ use Rattle.node_writer.proofs.Steps.{offsets-on, offsets-end, offsets-l
 use borrow.Author.Needs.{needs}
 use Rattle.node_writer.proofs.offset_words.Statement.{statement}
 use Rattle.node_writer.proofs.offset_words.Tie as tie
-use Rattle.node_writer.proofs.offset_words.Reads as reads
-use Rattle.node_writer.proofs.offset_words.Lts as lts
-use Rattle.put.proofs.half.Reads as half-reads
 
 abbrev Inv-loop : tie.InvT-loop
 Inv-loop t₀ at size c end a₀ k₀ w₀ t a k w =
@@ -27,8 +25,8 @@ loop-holds c = (search needs, refl, refl, refl, search needs)
 half-requires : tie.Need-half-requires Inv-loop μ-loop
 half-requires c κs = search needs
 
-sub-w : tie.Need-sub-w Inv-loop μ-loop
-sub-w c =
+sub-word : tie.Need-sub-word Inv-loop μ-loop
+sub-word c =
     let l = c .before .before .before .before .before .loop in
     omega (arith, less-one (l .k) (c .before .before .before .before .before .before .before .args .size) (c .before .before .before .before .loop-test .taken), l .inv .4)
 
@@ -44,7 +42,7 @@ loop-again c =
     let g = c .before .before .before .before .loop-test .taken in (
       search needs,
       turn (offsets (c .before .before .before .before .before .before .before .args .size) (l .k - 1)) (c .before .before .half .ensures)
-          ∙ ap (put (l .t) (l .a)) (ap (λ x. be16 x ++ offsets (c .before .before .before .before .before .before .before .args .size) (l .k - 1)) (l .inv .4) ∙ sym (offsets-on (c .before .before .before .before .before .before .before .args .size) (l .k) g)) ∙ l .inv .1,
+          ∙ ap (put (l .target) (l .a)) (ap (λ x. be16 x ++ offsets (c .before .before .before .before .before .before .before .args .size) (l .k - 1)) (l .inv .4) ∙ sym (offsets-on (c .before .before .before .before .before .before .before .args .size) (l .k) g)) ∙ l .inv .1,
       search needs,
       c .before .before .half .kept .0 ∙ l .inv .3,
       omega (arith, less-one (l .k) (c .before .before .before .before .before .before .before .args .size) g, l .inv .4),
@@ -59,7 +57,7 @@ same-length c = search needs
 returns : tie.Need-returns Inv-loop μ-loop
 returns c =
     let l = c .before .before .before .before .before .loop in
-    last (ap (put (l .t) (l .a)) (sym (offsets-end _ (l .k) (c .before .before .before .before .loop-test .left))) ∙ l .inv .1) (omega arith) (offsets-long _ _) (c .before .before .half2 .ensures)
+    last (ap (put (l .target) (l .a)) (sym (offsets-end _ (l .k) (c .before .before .before .before .loop-test .left))) ∙ l .inv .1) (omega arith) (offsets-long _ _) (c .before .before .half2 .ensures)
 
 pub offset-words-spec : {M : Type 1} → statement M
 offset-words-spec =
@@ -69,7 +67,7 @@ offset-words-spec =
     μ-loop
     loop-holds
     half-requires
-    sub-w
+    sub-word
     sub-k
     loop-less
     loop-again

@@ -1,11 +1,10 @@
 -- `write_tree` meets its contract. Assumes nothing.
 use mathlib.Core.Path.{_≡_, sym, ap, _∙_}
 use mathlib.Core.Bool.{true}
-use Prim.Native.Nat.{_/_, _≤_}
+use Prim.Native.Nat.{_≤_}
 use native.Mathlib.Omega.{arith}
 use borrow.Author.Tests.{not-true, not-false}
 use borrow.Author.Needs.{needs}
-use lib.ListN.{length}
 use Rattle.btree.specs.Decide.{says}
 use Rattle.btree.specs.Image.{Lengths}
 use Rattle.btree.specs.Tests.{decLengths}
@@ -14,10 +13,10 @@ use Rattle.frame.specs.Form.{hfs, layoutOf}
 use Rattle.frame.proofs.Forms.{hfs-listed, fair}
 use Rattle.shape.specs.Shape.{recordsIn, start, levels}
 use Rattle.laid.specs.Laid.{wanted, rootFor}
-use Rattle.leaf_rows.specs.Row.{RowLaw, decRowLaw}
+use Rattle.leaf_rows.specs.Row.{decRowLaw}
 use Rattle.tree_writer.proofs.Planned.{root-most, maps-most}
 use Rattle.writing.specs.Written.{nodesIn}
-use Rattle.writing.proofs.Answers.{Promised, refused-1, refused-19, refused-20, accepted, refusal, success}
+use Rattle.writing.proofs.Answers.{refused-1, refused-19, refused-20, accepted, refusal, success}
 use Rattle.writing.proofs.write_tree.Statement.{statement}
 use Rattle.writing.proofs.write_tree.Tie as tie
 

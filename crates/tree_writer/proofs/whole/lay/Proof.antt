@@ -1,6 +1,6 @@
 -- `whole::lay` meets its contract. Assumes nothing.
-use mathlib.Core.Path.{_≡_, sym, ap, _∙_}
-use Prim.Native.Nat.{_+_, _-_, _*_, _≤_}
+use mathlib.Core.Path.{_≡_, _∙_}
+use Prim.Native.Nat.{_+_, _-_, _*_}
 use native.Mathlib.Omega.{arith}
 use lib.ListN.{length}
 use Rattle.put.proofs.Laws.{then, put-all}
@@ -18,7 +18,7 @@ ends c =
     omega (arith, c .lay-tree .ensures .next, c .before .before .before .before .lay-front .ensures .next)
 
 -- the target keeps its length
-kept : (c : tie.After-lay-tree) → length (c .lay-tree .last .0) ≡ length (c .before .before .before .before .before .before .before .before .before .args .t .now)
+kept : (c : tie.After-lay-tree) → length (c .lay-tree .last .0) ≡ length (c .before .before .before .before .before .before .before .before .before .args .target .now)
 kept c = c .lay-tree .kept .0 ∙ c .before .before .before .before .lay-front .kept .0
 
 cast-nodes : tie.Need-cast-nodes
@@ -27,8 +27,8 @@ cast-nodes c = search needs
 leaves-for-requires : tie.Need-leaves-for-requires
 leaves-for-requires c κs = search needs
 
-cast-n : tie.Need-cast-n
-cast-n c = let s = c .before .before .before in let l = leaves-most (s .args .row .now) _ _ _ _ _ (s .pre) in omega (arith, c .leaves-for .ensures .0)
+cast-leaves : tie.Need-cast-leaves
+cast-leaves c = let s = c .before .before .before in let l = leaves-most (s .args .row .now) _ _ _ _ _ (s .pre) in omega (arith, c .leaves-for .ensures .0)
 
 cast-lay-front : tie.Need-cast-lay-front
 cast-lay-front c = let s = c .before .before .before .before in let l = records-fit (s .args .row .now) _ _ _ _ _ (s .pre) in omega arith
@@ -58,7 +58,7 @@ returns c =
     let s = c .before .before .before .before .before .before .before .before .before .before .before .before .before .before .before in
     let l = c .before .before .before .before .before .before .before .before .before .before .before .before .leaves-for in
     let w = then (c .before .before .before .before .before .before .before .before .before .before .lay-front .ensures) (then (d .lay-tree .ensures) (c .before .before .zeros .ensures)) in
-    w .bytes ∙ put-all _ (s .args .t .now) (w .long ∙ omega (arith, ends d, kept d, s .pre .fits))
+    w .bytes ∙ put-all _ (s .args .target .now) (w .long ∙ omega (arith, ends d, kept d, s .pre .fits))
     ∙ all-is (s .args .row .now) _ _ _ _ _ (s .pre) (l .result) (length (d .lay-tree .last .0) - d .lay-tree .result) (l .ensures .0) (omega (arith, ends d, kept d))
 
 pub lay-spec : {M : Type 1} → statement M
@@ -67,7 +67,7 @@ lay-spec =
     (tie.spec
     cast-nodes
     leaves-for-requires
-    cast-n
+    cast-leaves
     cast-lay-front
     lay-front-requires
     lay-tree-requires

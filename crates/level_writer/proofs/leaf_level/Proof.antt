@@ -1,5 +1,6 @@
+-- `leaf_level` meets its contract. Assumes nothing.
 use mathlib.Core.Path.{_≡_, refl, sym, ap, _∙_}
-use Prim.Native.Nat.{ℕ, _+_, _-_, _*_, _≤_}
+use Prim.Native.Nat.{_+_, _-_, _*_, _≤_}
 use native.Mathlib.Omega.{arith}
 use lib.ListN.{length}
 use Rattle.put.specs.Put.{put}
@@ -7,14 +8,8 @@ use Rattle.put.proofs.Laws.{turn, put-none}
 use Rattle.level_writer.specs.Parts.{leavesFrom}
 use Rattle.level_writer.proofs.LeafNodes.{leaves-on, leaves-end, leaves-start, leaves-long, part-fits}
 use borrow.Author.Needs.{needs}
-use Rattle.level_writer.proofs.leaves.Statement.{statement}
-use Rattle.level_writer.proofs.leaves.Tie as tie
-use Rattle.level_writer.proofs.leaves.Reads as reads
-use Rattle.level_writer.proofs.leaves.Lts as lts
-use Rattle.node_writer.proofs.back_link.Reads as back-link-reads
-use Rattle.level_writer.proofs.end_of.Reads as end-of-reads
-use Rattle.node_writer.proofs.leaf_node.Reads as leaf-node-reads
-use Rattle.node_writer.proofs.link.Reads as link-reads
+use Rattle.level_writer.proofs.leaf_level.Statement.{statement}
+use Rattle.level_writer.proofs.leaf_level.Tie as tie
 
 abbrev Inv-loop : tie.InvT-loop
 Inv-loop t₀ at row s n a₀ k₀ t a k =
@@ -72,7 +67,7 @@ loop-again c =
     let s = c .before .before .before .before .before .before .before .before .before .before .before .before in (
       search needs,
       turn _ (c .before .before .leaf-node .ensures)
-          ∙ ap (put (l .t) (l .a)) (leaves-on (s .args .row .now) (s .args .s) (s .args .n) (l .k) (c .before .before .before .before .before .before .before .end-of .result) (c .before .before .before .before .before .before .link .result) (c .before .before .before .before .before .back-link .result)
+          ∙ ap (put (l .target) (l .a)) (leaves-on (s .args .row .now) (s .args .first) (s .args .nodes) (l .k) (c .before .before .before .before .before .before .before .end-of .result) (c .before .before .before .before .before .before .link .result) (c .before .before .before .before .before .back-link .result)
           (s .pre .whole) (s .pre .some) (s .pre .nodes) (c .before .before .before .before .before .before .before .before .loop-test .taken) (c .before .before .before .before .before .before .before .end-of .ensures .2) (c .before .before .before .before .before .before .link .ensures) (c .before .before .before .before .before .back-link .ensures))
           ∙ l .inv .1,
       search needs,
@@ -87,13 +82,13 @@ returns c =
     let l = c .before .loop in
     let s = c .before .before .before .before in
     record {
-      bytes = sym (put-none (l .t) (l .a)) ∙ ap (put (l .t) (l .a)) (sym (leaves-end _ _ _ (l .k) (c .loop-test .left))) ∙ l .inv .1;
+      bytes = sym (put-none (l .target) (l .a)) ∙ ap (put (l .target) (l .a)) (sym (leaves-end _ _ _ (l .k) (c .loop-test .left))) ∙ l .inv .1;
       next = omega arith;
       long = leaves-long _ _ _ (s .pre .whole);
     }
 
-pub leaves-spec : {M : Type 1} → statement M
-leaves-spec =
+pub leaf-level-spec : {M : Type 1} → statement M
+leaf-level-spec =
     tie.close
     (tie.spec
     Inv-loop
