@@ -9,6 +9,7 @@ ghost use Rattle.map_writer.specs.Parts.{front, numbers, headerWords, He
 use node_writer::describe;
 use node_writer::link;
 
+// Byte k of a map whose first `used` bits are set. It goes by `<` alone: a proof stops at six tests for inequality.
 pub fn map_byte(used: u32, k: u32) -> u8
     requires { ⌜ k < 65536 ⌝ }
     ensures { λ r. ⌜ r ≡ mapByte used k ⌝ }
@@ -41,6 +42,7 @@ pub fn map_byte(used: u32, k: u32) -> u8
     254
 }
 
+// So many bytes of that map, from byte `from` on.
 pub fn map_part(target: &mut [u8], at: usize, used: u32, from: u32, count: u32) -> usize
     requires { ⌜ (at + count ≤ length (now target)) × (from + count ≤ 65536) ⌝ }
     ensures { λ r. ⌜ Puts (now (target .entry)) (now (target .exit)) at count (mapPart used from count) r ⌝ }
@@ -55,6 +57,7 @@ pub fn map_part(target: &mut [u8], at: usize, used: u32, from: u32, count: u32) 
     a
 }
 
+// Map node i, which is node i + 1.
 pub fn map_node(target: &mut [u8], at: usize, maps: u32, used: u32, i: u32) -> usize
     requires { ⌜ (at + 512 ≤ length (now target)) × (i < 20) ⌝ }
     ensures { λ r. ⌜ Puts (now (target .entry)) (now (target .exit)) at 512 (mapNode maps used i) r ⌝ }
@@ -139,7 +142,7 @@ pub fn header_node(
     header_words(target, d)
 }
 
-// The maps map nodes.
+// The map nodes, one after another.
 pub fn map_nodes(target: &mut [u8], at: usize, maps: u32, used: u32) -> usize
     requires { ⌜ (at + 512 * maps ≤ length (now target)) × (maps ≤ 20) ⌝ }
     ensures { λ r. ⌜ Puts (now (target .entry)) (now (target .exit)) at (512 * maps) (span 0 maps (mapNode maps used)) r ⌝ }

@@ -8,6 +8,7 @@ ghost use Rattle.btree.specs.Decide.{cond};
 ghost use Rattle.laid.specs.Laid.{described, offsets, backTo};
 ghost use Rattle.node_writer.specs.Parts.{framed, leafNode, Inside, indexed, indexNode};
 
+// The first 14 bytes of a node.
 pub fn describe(
     target: &mut [u8],
     at: usize,
@@ -115,7 +116,7 @@ pub fn index_entries(
     a
 }
 
-// An index node of a level, with count children.
+// An index node of a level, with so many children.
 pub fn index_node(
     target: &mut [u8],
     at: usize,
