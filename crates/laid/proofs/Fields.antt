@@ -16,9 +16,9 @@ use Rattle.frame.specs.Kinds.{kindOf}
 use Rattle.extent_nodes.specs.Records.{dataSize, recordSize}
 use Rattle.formats.specs.Format.{rankAt, recordOffset}
 use Rattle.put.specs.Put.{be16, be32}
-use Rattle.shape.specs.Shape.{firstIn, rowOf, entries, nodesAt, held, start}
+use Rattle.shape.specs.Shape.{firstIn, recordUnder, entriesAt, nodesAt, held, start}
 use Rattle.shape.proofs.Shape.{row-inside, held-most, held-inside, start-mono}
-use Rattle.laid.specs.Laid.{described, offsets, sizeAt, kindAt, backTo, entry, node, nodesOf, joined}
+use Rattle.laid.specs.Laid.{described, offsets, sizeAt, kindAt, backTo, entry, node, imageNodes, joined}
 use Rattle.laid.proofs.Bytes.{Same, same-16, same-32, same-part, same-then, same-skip, same-front, same-cut, same-span, same-joined}
 use Rattle.laid.proofs.Keys.{same-key}
 use Rattle.laid.proofs.Nodes.{described-length, fits, entry-length, entries-length, cut-length, all-512, nodes-length, node-at}
@@ -91,20 +91,20 @@ size-twelve h = omega arith
 
 module _ (row : List ℕ) (m r : ℕ) (long : r * 20 ≤ length row) where
   -- an entry starts with the key of its row
-  entry-key : (h q : ℕ) → q < entries r h → Same (entry row m r h q) 0 row (rowOf h q * 20) 8
+  entry-key : (h q : ℕ) → q < entriesAt r h → Same (entry row m r h q) 0 row (recordUnder h q * 20) 8
   unfolding entry
-  entry-key zero q l = same-less 8 (omega arith) (same-cut row 20 (rowOf 0 q * 20))
+  entry-key zero q l = same-less 8 (omega arith) (same-cut row 20 (recordUnder 0 q * 20))
   entry-key (suc h) q l =
-      same-then (same-front (take 8 (drop (rowOf (suc h) q * 20) row)) (be32 (start m r h + q)) 0 8 (rw (key-long (suc h) q l) (omega arith))) (same-cut row 8 (rowOf (suc h) q * 20))
+      same-then (same-front (take 8 (drop (recordUnder (suc h) q * 20) row)) (be32 (start m r h + q)) 0 8 (rw (key-long (suc h) q l) (omega arith))) (same-cut row 8 (recordUnder (suc h) q * 20))
     where
-      key-long : (h q : ℕ) → q < entries r h → length (take 8 (drop (rowOf h q * 20) row)) ≡ 8
-      key-long h q l = cut-length row m r long 8 (rowOf h q) (row-inside r h q l) (omega arith)
+      key-long : (h q : ℕ) → q < entriesAt r h → length (take 8 (drop (recordUnder h q * 20) row)) ≡ 8
+      key-long h q l = cut-length row m r long 8 (recordUnder h q) (row-inside r h q l) (omega arith)
 
-  entry-child : (h q : ℕ) → q < entries r (suc h) → be32At (entry row m r (suc h) q) 8 ≡ start m r h + q
+  entry-child : (h q : ℕ) → q < entriesAt r (suc h) → be32At (entry row m r (suc h) q) 8 ≡ start m r h + q
   unfolding entry
   entry-child h q l =
-      same-32 (same-skip (take 8 (drop (rowOf (suc h) q * 20) row)) (be32 (start m r h + q)) 8 0 4
-      (cut-length row m r long 8 (rowOf (suc h) q) (row-inside r (suc h) q l) (omega arith))) 0 (omega arith)
+      same-32 (same-skip (take 8 (drop (recordUnder (suc h) q * 20) row)) (be32 (start m r h + q)) 8 0 4
+      (cut-length row m r long 8 (recordUnder (suc h) q) (row-inside r (suc h) q l) (omega arith))) 0 (omega arith)
       ∙ read-32 (start m r h + q)
 
   -- in a node of the tree
@@ -134,7 +134,7 @@ module _ (row : List ℕ) (m r : ℕ) (long : r * 20 ≤ length row) where
   -- in the image
   module _ (D nodes : ℕ) (room : start m r D ≤ nodes) (h k : ℕ) (l : h < D) (u : k < nodesAt r h) where
     abbrev img : List ℕ
-    img = joined (nodesOf row m r D nodes)
+    img = joined (imageNodes row m r D nodes)
 
     abbrev n : ℕ
     n = start m r h + k
@@ -143,7 +143,7 @@ module _ (row : List ℕ) (m r : ℕ) (long : r * 20 ≤ length row) where
     here =
         let a = start-mono m r h D l in
         rw (node-at row m r long D nodes room h k l u) at
-        (same-joined (nodesOf row m r D nodes) (all-512 row m r long D nodes room) n (rw (nodes-length row m r long D nodes room) (omega arith)))
+        (same-joined (imageNodes row m r D nodes) (all-512 row m r long D nodes room) n (rw (nodes-length row m r long D nodes room) (omega arith)))
 
     pub i-forward : be32At img (n * 512) ≡ cond (decLt (suc k) (nodesAt r h)) (start m r h + suc k) 0
     unfolding node
@@ -189,10 +189,10 @@ module _ (row : List ℕ) (m r : ℕ) (long : r * 20 ≤ length row) where
           same-then (same-part here (14 + i * sizeAt h) (sizeAt h) (omega arith)) (rw z (node-entry h k i b))
 
       -- its key is that of its row
-      pub i-row : Same img (n * 512 + (14 + i * sizeAt h)) row (rowOf h (firstIn h k + i) * 20) 8
+      pub i-row : Same img (n * 512 + (14 + i * sizeAt h)) row (recordUnder h (firstIn h k + i) * 20) 8
       i-row = same-then (same-less 8 (size-key h) i-entry) (entry-key h (firstIn h k + i) (held-inside r h k i b))
 
-      pub i-key : rankAt hfs img (n * 512 + recordOffset hfs img n i) ≡ rankAt hfs row (rowOf h (firstIn h k + i) * 20)
+      pub i-key : rankAt hfs img (n * 512 + recordOffset hfs img n i) ≡ rankAt hfs row (recordUnder h (firstIn h k + i) * 20)
       i-key = rw i-record (same-key i-row (omega arith))
 
   module _ (D nodes : ℕ) (room : start m r D ≤ nodes) (h k : ℕ) (l : suc h < D) (u : k < nodesAt r (suc h)) (i : ℕ) (b : i < held r (suc h) k) where

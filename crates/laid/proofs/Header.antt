@@ -18,7 +18,7 @@ use Rattle.shape.specs.Shape.{start}
 use Rattle.shape.proofs.Shape.{start-low}
 use Rattle.shape.proofs.Shaped.{range}
 use Rattle.shape.proofs.Levels.{span-append}
-use Rattle.laid.specs.Laid.{described, mapByte, mapPart, mapNode, rootFor, firstFor, lastFor, headerStart, header, nodesOf, joined}
+use Rattle.laid.specs.Laid.{described, mapByte, mapPart, mapNode, rootFor, firstFor, lastFor, headerStart, header, imageNodes, joined}
 use Rattle.laid.proofs.Bytes.{Same, same-16, same-32, same-part, same-then, same-skip, same-front, same-take, same-joined, gather-length}
 use Rattle.laid.proofs.Nodes.{described-length, start-length, part-length, all-512, nodes-length, header-at, map-at}
 use Rattle.laid.proofs.Fields.{d-forward, d-back, d-kind, d-level, d-count, d-reserved, read-16}
@@ -115,10 +115,10 @@ chain-from link m e (suc f) i b = go (decLt i m) (chain-from link m e f (suc i))
 
 module _ (row : List ℕ) (m r : ℕ) (long : r * 20 ≤ length row) (D nodes : ℕ) (room : start m r D ≤ nodes) where
   abbrev img : List ℕ
-  img = joined (nodesOf row m r D nodes)
+  img = joined (imageNodes row m r D nodes)
 
   pub img-length : length img ≡ nodes * 512
-  img-length = gather-length 512 (λ x. x) (nodesOf row m r D nodes) (all-512 row m r long D nodes room) ∙ ap (λ x. x * 512) (nodes-length row m r long D nodes room)
+  img-length = gather-length 512 (λ x. x) (imageNodes row m r D nodes) (all-512 row m r long D nodes room) ∙ ap (λ x. x * 512) (nodes-length row m r long D nodes room)
 
   some-nodes : 0 < nodes
   some-nodes = let a = start-low m r D in omega arith
@@ -126,12 +126,12 @@ module _ (row : List ℕ) (m r : ℕ) (long : r * 20 ≤ length row) (D nodes : 
   at-header : Same img 0 (header m r D nodes) 0 512
   at-header =
       rw (header-at row m r long D nodes room) at
-      (same-joined (nodesOf row m r D nodes) (all-512 row m r long D nodes room) 0 (rw (nodes-length row m r long D nodes room) some-nodes))
+      (same-joined (imageNodes row m r D nodes) (all-512 row m r long D nodes room) 0 (rw (nodes-length row m r long D nodes room) some-nodes))
 
   at-map : (i : ℕ) → i < m → Same img (suc i * 512) (mapNode m (start m r D) i) 0 512
   at-map i l =
       rw (map-at row m r long D nodes room i l) at
-      (same-joined (nodesOf row m r D nodes) (all-512 row m r long D nodes room) (suc i)
+      (same-joined (imageNodes row m r D nodes) (all-512 row m r long D nodes room) (suc i)
       (rw (nodes-length row m r long D nodes room) (let a = start-low m r D in omega arith)))
 
   pub img-depth : depthOf img ≡ D

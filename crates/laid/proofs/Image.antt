@@ -18,13 +18,13 @@ use Rattle.frame.specs.Kinds.{kindOn, kindOf}
 use Rattle.extent_nodes.specs.Records.{KeyLaw, startAt}
 use Rattle.formats.specs.Format.{rankAt, Records, NodeOn, formatOf, view}
 use Rattle.put.specs.Put.{be16}
-use Rattle.shape.specs.Shape.{firstIn, rowOf, nodesAt, held, start}
+use Rattle.shape.specs.Shape.{firstIn, recordUnder, nodesAt, held, start}
 use Rattle.shape.proofs.Shape.{row-inside, held-most, held-some, held-inside, start-low, nodes-some}
 use Rattle.shape.proofs.Shaped.{Deep, range, Shaped}
 use Rattle.shape.proofs.Levels.{range-in, range-once, range-last, range-length, spot}
 use Rattle.shape.proofs.Tree.{tree-sound, tree-totals}
 use Rattle.shape.proofs.Reach.{reached-length, reached-low, low-reached}
-use Rattle.laid.specs.Laid.{mapPart, kindAt, backTo, rootFor, firstFor, lastFor, nodesOf, joined}
+use Rattle.laid.specs.Laid.{mapPart, kindAt, backTo, rootFor, firstFor, lastFor, imageNodes, joined}
 use Rattle.laid.proofs.Bytes.{same-16}
 use Rattle.laid.proofs.Keys.{same-law}
 use Rattle.laid.proofs.Nodes.{fits}
@@ -54,7 +54,7 @@ pub record Given (row : List ℕ) (m r D nodes : ℕ) : Type 0 where
 
 module _ (row : List ℕ) (m r D nodes : ℕ) (g : Given row m r D nodes) where
   abbrev pub img : List ℕ
-  img = joined (nodesOf row m r D nodes)
+  img = joined (imageNodes row m r D nodes)
 
   abbrev pub keys : ℕ → ℕ
   keys q = rankAt hfs row (q * 20)
@@ -98,7 +98,7 @@ module _ (row : List ℕ) (m r D nodes : ℕ) (g : Given row m r D nodes) where
     key-law : (i : ℕ) → i < held r h k → KeyLaw hfs img (startAt hfs (kindAt h) (start m r h + k) i)
     key-law i b =
         let q = row-inside r h (firstIn h k + i) (held-inside r h k i b) in
-        rw (size-of h) (same-law (i-row row m r (g .long) D nodes (g .room) h k l u i b) (omega arith) (g .law (rowOf h (firstIn h k + i)) q))
+        rw (size-of h) (same-law (i-row row m r (g .long) D nodes (g .room) h k l u i b) (omega arith) (g .law (recordUnder h (firstIn h k + i)) q))
 
     records : Records hfs img (kindAt h) (start m r h + k)
     unfolding kindOf

@@ -11,11 +11,11 @@ use lib.Seq.{length-take-le}
 use Rattle.btree.specs.Decide.{cond}
 use Rattle.btree.specs.Lists.{_∈_, span}
 use Rattle.btree.proofs.Lists.{span-mem}
-use Rattle.put.specs.Put.{be16, be32}
-use Rattle.shape.specs.Shape.{fanout, firstIn, rowOf, entries, nodesAt, held, start}
+use Rattle.put.specs.Put.{be16}
+use Rattle.shape.specs.Shape.{fanout, firstIn, recordUnder, entriesAt, nodesAt, held, start}
 use Rattle.shape.proofs.Shape.{row-inside, held-most, held-inside, start-mono, start-low}
 use Rattle.shape.proofs.Levels.{ones-length}
-use Rattle.laid.specs.Laid.{described, mapPart, mapNode, offsets, sizeAt, kindAt, backTo, headerStart, header, entry, node, levelNodes, nodesOf}
+use Rattle.laid.specs.Laid.{described, mapPart, mapNode, offsets, sizeAt, kindAt, backTo, headerStart, header, entry, node, levelNodes, imageNodes}
 use Rattle.laid.proofs.Bytes.{skip, ones-at, span-length}
 
 pub described-length : (f b k l c : ℕ) → length (described f b k l c) ≡ 14
@@ -61,12 +61,12 @@ module _ (row : List ℕ) (m r : ℕ) (long : r * 20 ≤ length row) where
   pub cut-length : (n q : ℕ) → q < r → n ≤ 20 → length (take n (drop (q * 20) row)) ≡ n
   cut-length n q l u = length-take-le n (drop (q * 20) row) (rw (length-drop (q * 20) row) (omega arith))
 
-  pub entry-length : (h q : ℕ) → q < entries r h → length (entry row m r h q) ≡ sizeAt h
+  pub entry-length : (h q : ℕ) → q < entriesAt r h → length (entry row m r h q) ≡ sizeAt h
   unfolding entry sizeAt
-  entry-length zero q l = cut-length 20 (rowOf 0 q) (row-inside r 0 q l) (omega arith)
+  entry-length zero q l = cut-length 20 (recordUnder 0 q) (row-inside r 0 q l) (omega arith)
   entry-length (suc h) q l =
-      length-append (take 8 (drop (rowOf (suc h) q * 20) row)) (be32 (start m r h + q))
-      ∙ rw (cut-length 8 (rowOf (suc h) q) (row-inside r (suc h) q l) (omega arith))
+      length-append (take 8 (drop (recordUnder (suc h) q * 20) row)) _
+      ∙ rw (cut-length 8 (recordUnder (suc h) q) (row-inside r (suc h) q l) (omega arith))
 
   pub entries-length : (h k : ℕ) → length (span (firstIn h k) (held r h k) (entry row m r h)) ≡ held r h k * sizeAt h
   entries-length h k =
@@ -92,8 +92,8 @@ module _ (row : List ℕ) (m r : ℕ) (long : r * 20 ≤ length row) where
     zero-node zero x w = absurd (List·Memᴰ·not-nil w)
     zero-node (suc n) x w = ⊎-elim (λ e. ap length e ∙ length-replicate {A = ℕ} 512 0) (zero-node n x) (List·Memᴰ·cases-cons w)
 
-    pub all-512 : (x : List ℕ) → x ∈ nodesOf row m r D nodes → length x ≡ 512
-    unfolding nodesOf
+    pub all-512 : (x : List ℕ) → x ∈ imageNodes row m r D nodes → length x ≡ 512
+    unfolding imageNodes
     all-512 x w =
         ⊎-elim (λ e. ap length e ∙ header-length m r D nodes)
         (λ a. ⊎-elim
@@ -117,8 +117,8 @@ module _ (row : List ℕ) (m r : ℕ) (long : r * 20 ≤ length row) where
         let b = ones-length 0 (nodesAt r i) (node row m r i) in
         rw (length-append (levelNodes row m r i) (span (suc i) n (levelNodes row m r)), z) (omega arith)
 
-    pub nodes-length : length (nodesOf row m r D nodes) ≡ nodes
-    unfolding nodesOf start
+    pub nodes-length : length (imageNodes row m r D nodes) ≡ nodes
+    unfolding imageNodes start
     nodes-length =
         let a = levels-length 0 D in
         let z : 0 + D ≡ D = omega arith in
@@ -159,19 +159,19 @@ module _ (row : List ℕ) (m r : ℕ) (long : r * 20 ≤ length row) where
     abbrev tree : List (List ℕ)
     tree = span 0 D (levelNodes row m r)
 
-    pub header-at : getD (nodesOf row m r D nodes) 0 [] ≡ header m r D nodes
-    unfolding nodesOf
+    pub header-at : getD (imageNodes row m r D nodes) 0 [] ≡ header m r D nodes
+    unfolding imageNodes
     header-at = refl
 
-    pub map-at : (i : ℕ) → i < m → getD (nodesOf row m r D nodes) (suc i) [] ≡ mapNode m (start m r D) i
-    unfolding nodesOf
+    pub map-at : (i : ℕ) → i < m → getD (imageNodes row m r D nodes) (suc i) [] ≡ mapNode m (start m r D) i
+    unfolding imageNodes
     map-at i l =
         let z : 0 + i ≡ i = omega arith in
         List·getD-append maps (tree ++ replicate (nodes - start m r D) (replicate 512 0)) [] i (rw (ones-length 0 m (mapNode m (start m r D))) l)
         ∙ ones-at [] (mapNode m (start m r D)) 0 m i l ∙ ap (mapNode m (start m r D)) z
 
-    pub node-at : (h k : ℕ) → h < D → k < nodesAt r h → getD (nodesOf row m r D nodes) (start m r h + k) [] ≡ node row m r h k
-    unfolding nodesOf start
+    pub node-at : (h k : ℕ) → h < D → k < nodesAt r h → getD (imageNodes row m r D nodes) (start m r h + k) [] ≡ node row m r h k
+    unfolding imageNodes start
     node-at h k l u =
         let a = start-low m r h in
         let b = start-mono m r h D l in
@@ -180,7 +180,7 @@ module _ (row : List ℕ) (m r : ℕ) (long : r * 20 ≤ length row) where
         let c = levels-length 0 D in
         let e : 0 + D ≡ D = omega arith in
         let c′ = rw e at c in
-        ap (λ t. getD (nodesOf row m r D nodes) t []) z
+        ap (λ t. getD (imageNodes row m r D nodes) t []) z
         ∙ skip [] maps (tree ++ replicate (nodes - start m r D) (replicate 512 0)) m y (ones-length 0 m (mapNode m (start m r D)))
         ∙ List·getD-append tree (replicate (nodes - start m r D) (replicate 512 0)) [] y (omega arith)
         ∙ level-at 0 D h k (omega arith) (omega arith) u y (omega arith)

@@ -14,7 +14,7 @@ use Rattle.btree.proofs.Lists.{gather-append, gather-span}
 use Rattle.btree.proofs.Leaves.{leafList-leaves}
 use Rattle.frame.specs.Form.{hfs}
 use Rattle.formats.specs.Format.{view}
-use Rattle.shape.specs.Shape.{firstIn, rowOf, nodesAt, held, start}
+use Rattle.shape.specs.Shape.{firstIn, recordUnder, nodesAt, held, start}
 use Rattle.shape.proofs.Shape.{held-most, held-inside, start-mono}
 use Rattle.shape.proofs.Shaped.{Deep, range, Shaped}
 use Rattle.shape.proofs.Levels.{span-move}
@@ -54,7 +54,7 @@ chunks row i (suc n) e =
 module _ (row : List ℕ) (m r D nodes : ℕ) (g : Given row m r D nodes) where
   leaf-bytes : (k i : ℕ) → 0 < D → k < nodesAt r 0 → i < held r 0 k
       → bytesOf (img row m r D nodes g) (recordOf (view hfs (img row m r D nodes g)) (start m r 0 + k) i) ≡ take 20 (drop ((firstIn 0 k + i) * 20) row)
-  unfolding viewOf sizeAt entry rowOf
+  unfolding viewOf sizeAt entry recordUnder
   leaf-bytes k i l u b =
       let q = firstIn 0 k + i in
       let e = i-record row m r (g .long) D nodes (g .room) 0 k l u i b in

@@ -9,7 +9,7 @@ use lib.ListN.{length, take, drop, length-drop}
 use lib.Seq.{take-add, drop-drop, length-take-le}
 use Rattle.btree.specs.Decide.{cond}
 use Rattle.btree.specs.Lists.{span}
-use Rattle.shape.specs.Shape.{fanout, firstIn, rowOf, entries, nodesAt, held, start}
+use Rattle.shape.specs.Shape.{fanout, firstIn, recordUnder, entriesAt, nodesAt, held, start}
 use Rattle.shape.proofs.Shape.{start-first, leaf-nodes}
 use Rattle.laid.specs.Laid.{sizeAt, kindAt, backTo, entry, node}
 use Rattle.laid.proofs.Bytes.{span-length}
@@ -27,7 +27,7 @@ cut-span row q (suc c) =
 
 module _ (row : List ℕ) (m r : ℕ) where
   leaf-span : (q c : ℕ) → span q c (entry row m r 0) ≡ take (c * 20) (drop (q * 20) row)
-  unfolding entry rowOf
+  unfolding entry recordUnder
   leaf-span q c = cut-span row q c
 
   -- a leaf
@@ -41,7 +41,7 @@ module _ (row : List ℕ) (m r : ℕ) where
       rw (b, leaf-span (firstIn 0 k) c)
 
 held-leaf : (r k : ℕ) → held r 0 k ≡ min 22 (r - k * 22)
-unfolding held fanout entries firstIn
+unfolding held fanout entriesAt firstIn
 held-leaf r k = refl
 
 first-leaf : (k : ℕ) → firstIn 0 k ≡ k * 22

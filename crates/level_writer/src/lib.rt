@@ -84,7 +84,7 @@ pub fn index_level(
     a
 }
 
-// So many index levels, the lowest of them over the leaves; each is over the one before.
+// So many index levels from level 2 up, the lowest over the leaves, which start with `child`; each is over the one before.
 pub fn index_levels(
     target: &mut [u8],
     at: usize,

@@ -37,6 +37,7 @@ fn main() {
     case(b"two_level_leaf_records_one_short_in_node_0");
     case(b"falling_map_nodes_bits_13903_and_13904_flipped_in_node_13");
     case(b"three_level");
+    case(b"written_two_level");
     case(b"longest_listed");
     case(b"length_65537");
     // A folder can be opened and not read.

@@ -65,11 +65,11 @@ pub fn map_node(target: &mut [u8], at: usize, maps: u32, used: u32, i: u32) -> u
     let forward = link(1, i + 1, maps);
     let a = describe(target, at, forward, 0, 2, 0, 1);
     let b = map_part(target, a, used, 256 + 494 * i, 494);
-    let c = put::half(target, b, 508);
-    put::half(target, c, 14)
+    let c = put::number16(target, b, 508);
+    put::number16(target, c, 14)
 }
 
-// The header's first bytes, to the number of its records.
+// The header's first bytes, up to the number of leaf records.
 pub fn header_front(
     target: &mut [u8],
     at: usize,
@@ -83,13 +83,13 @@ pub fn header_front(
 {
     let forward = link(1, 0, maps);
     let a = describe(target, at, forward, 0, 1, 0, 3);
-    let b = put::half(target, a, depth);
-    let c = put::word(target, b, root);
-    put::word(target, c, records)
+    let b = put::number16(target, a, depth);
+    let c = put::number32(target, b, root);
+    put::number32(target, c, records)
 }
 
-// Its other numbers.
-pub fn header_back(
+// The header's other numbers, from the first leaf on.
+pub fn header_numbers(
     target: &mut [u8],
     at: usize,
     first: u32,
@@ -100,12 +100,12 @@ pub fn header_back(
     requires { ⌜ at + 20 ≤ length (now target) ⌝ }
     ensures { λ r. ⌜ Puts (now (target .entry)) (now (target .exit)) at 20 (numbers first last nodes free) r ⌝ }
 {
-    let a = put::word(target, at, first);
-    let b = put::word(target, a, last);
-    let c = put::half(target, b, 512);
-    let d = put::half(target, c, 7);
-    let e = put::word(target, d, nodes);
-    put::word(target, e, free)
+    let a = put::number32(target, at, first);
+    let b = put::number32(target, a, last);
+    let c = put::number16(target, b, 512);
+    let d = put::number16(target, c, 7);
+    let e = put::number32(target, d, nodes);
+    put::number32(target, e, free)
 }
 
 // The header's offset words.
@@ -113,10 +113,10 @@ pub fn header_words(target: &mut [u8], at: usize) -> usize
     requires { ⌜ at + 8 ≤ length (now target) ⌝ }
     ensures { λ r. ⌜ Puts (now (target .entry)) (now (target .exit)) at 8 headerWords r ⌝ }
 {
-    let a = put::half(target, at, 504);
-    let b = put::half(target, a, 248);
-    let c = put::half(target, b, 120);
-    put::half(target, c, 14)
+    let a = put::number16(target, at, 504);
+    let b = put::number16(target, a, 248);
+    let c = put::number16(target, b, 120);
+    put::number16(target, c, 14)
 }
 
 // The header node.
@@ -136,7 +136,7 @@ pub fn header_node(
     ensures { λ r. ⌜ Puts (now (target .entry)) (now (target .exit)) at 512 (header maps records depth nodes) r ⌝ }
 {
     let a = header_front(target, at, maps, depth, root, records);
-    let b = header_back(target, a, first, last, nodes, nodes - used);
+    let b = header_numbers(target, a, first, last, nodes, nodes - used);
     let c = put::zeros(target, b, 204);
     let d = map_part(target, c, used, 0, 256);
     header_words(target, d)

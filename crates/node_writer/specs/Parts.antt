@@ -10,6 +10,7 @@ use Rattle.laid.specs.Laid.{described, offsets}
 unfoldable pub framed : (size c : ℕ) → List ℕ
 framed size c = replicate (498 - (c * size + 2 * suc c)) 0 ++ offsets size c
 
+-- a leaf with these records
 unfoldable pub leafNode : (forward back : ℕ) → List ℕ → List ℕ
 leafNode f b recs = described f b 255 1 (length recs / 20) ++ (recs ++ framed 20 (length recs / 20))
 

@@ -21,15 +21,15 @@ pub fn describe(
     requires { ⌜ at + 14 ≤ length (now target) ⌝ }
     ensures { λ r. ⌜ Puts (now (target .entry)) (now (target .exit)) at 14 (described forward back kind level count) r ⌝ }
 {
-    let a = put::word(target, at, forward);
-    let b = put::word(target, a, back);
+    let a = put::number32(target, at, forward);
+    let b = put::number32(target, a, back);
     let c = put::byte(target, b, kind);
     let d = put::byte(target, c, level);
-    let e = put::half(target, d, count);
-    put::half(target, e, 0)
+    let e = put::number16(target, d, count);
+    put::number16(target, e, 0)
 }
 
-// The node k places after the first, where a level has so many nodes, or 0.
+// The node k places after the first, where k is below the nodes of the level, or else 0.
 pub fn link(first: u32, k: u32, nodes: u32) -> u32
     requires { ⌜ first + k < 4294967296 ⌝ }
     ensures { λ r. ⌜ r ≡ cond (decLt k nodes) (first + k) 0 ⌝ }
@@ -45,7 +45,7 @@ pub fn back_link(first: u32, k: u32) -> u32
     if k == 0 { 0 } else { first + (k - 1) }
 }
 
-// The offset words of so many records of a size, the last of which ends at `end`.
+// The offset words of so many records of a size, where the last record ends at `end`.
 pub fn offset_words(target: &mut [u8], at: usize, size: u16, count: u16, end: u16) -> usize
     requires { ⌜ (count ≤ 35) × (at + (2 * count + 2) ≤ length (now target)) × (end ≡ 14 + count * size) ⌝ }
     ensures { λ r. ⌜ Puts (now (target .entry)) (now (target .exit)) at (2 * count + 2) (offsets size count) r ⌝ }
@@ -54,11 +54,11 @@ pub fn offset_words(target: &mut [u8], at: usize, size: u16, count: u16, end: u1
     let mut k = count;
     let mut word = end;
     while k > 0 {
-        a = put::half(target, a, word);
+        a = put::number16(target, a, word);
         word -= size;
         k -= 1;
     }
-    put::half(target, a, 14)
+    put::number16(target, a, 14)
 }
 
 // The rest of a node after so many records of a size: zeros, and the offset words.
@@ -109,7 +109,7 @@ pub fn index_entries(
     let mut i: u32 = 0;
     while i < count {
         let b = key_part(target, a, row, place);
-        a = put::word(target, b, child + i);
+        a = put::number32(target, b, child + i);
         place += step;
         i += 1;
     }

@@ -8,7 +8,7 @@ use native.Mathlib.Decide.{ℕ-discrete, decLe}
 use lib.ListN.{length, length-append}
 use Rattle.btree.specs.Lists.{_∈_, span}
 use Rattle.btree.specs.Tree.{View, below, OnLevel, leavesAt, treeNodes, recordCount}
-use Rattle.shape.specs.Shape.{fanout, firstIn, entries, nodesAt}
+use Rattle.shape.specs.Shape.{fanout, firstIn, entriesAt, nodesAt}
 use Rattle.shape.proofs.Shaped.{treeSize, Deep}
 use Rattle.shape.proofs.Shape.{first-suc, group-least, leaf-nodes}
 use Rattle.shape.proofs.Levels.{ones-length, below-last, counts-length}
@@ -44,7 +44,7 @@ module _ (v : View) where
         records-most h (below v d root) (λ n w. rw z at (most d n (record { deep = omega arith; among = w })))
 
     level-least : (d h : ℕ) → d + suc h ≡ depth → nodesAt (recordCount v (leavesAt v depth)) h ≤ length (below v d root)
-    unfolding entries
+    unfolding entriesAt
     level-least d zero e =
         let z : depth ≡ suc d = omega arith in
         group-least 0 _ (length (below v d root)) (rw z (level-most d 0 e))

@@ -8,7 +8,7 @@ use lib.ListN.{length, length-append}
 use Rattle.btree.specs.Lists.{_∈_, span, gather, lastOr, Distinct}
 use Rattle.btree.specs.Tree.{View, below, OnLevel, leavesAt, recordCount}
 use Rattle.btree.proofs.Lists.{span-mem, mem-span, gather-span}
-use Rattle.shape.specs.Shape.{firstIn, entries, nodesAt, held, start}
+use Rattle.shape.specs.Shape.{firstIn, entriesAt, nodesAt, held, start}
 use Rattle.shape.proofs.Shaped.{Deep, range, Shaped}
 use Rattle.shape.proofs.Shape.{first-zero, first-suc, nodes-all, nodes-low, held-full, held-rest, leaf-nodes}
 
@@ -50,18 +50,18 @@ range-last p a (suc n) = range-last a (suc a) n ∙ omega arith
 
 -- what the nodes of a height give, one after another, where each gives what g gives of its entries
 module _ {A : Type 0} (m r h : ℕ) (f g : ℕ → List A) (each : (k : ℕ) → k < nodesAt r h → f (start m r h + k) ≡ span (firstIn h k) (held r h k) g) where
-  entries-from : (k c : ℕ) → k + c ≡ nodesAt r h → gather f (range (start m r h + k) c) ≡ span (firstIn h k) (entries r h - firstIn h k) g
+  entries-from : (k c : ℕ) → k + c ≡ nodesAt r h → gather f (range (start m r h + k) c) ≡ span (firstIn h k) (entriesAt r h - firstIn h k) g
   entries-from k zero e =
       let a = nodes-all r h k (omega arith) in
-      let z : entries r h - firstIn h k ≡ 0 = omega arith in
+      let z : entriesAt r h - firstIn h k ≡ 0 = omega arith in
       rw z
   entries-from k (suc c) e = go c e (entries-from (suc k) c (omega arith))
     where
-      go : (c : ℕ) → k + suc c ≡ nodesAt r h → gather f (range (start m r h + suc k) c) ≡ span (firstIn h (suc k)) (entries r h - firstIn h (suc k)) g
-          → f (start m r h + k) ++ gather f (range (suc (start m r h + k)) c) ≡ span (firstIn h k) (entries r h - firstIn h k) g
+      go : (c : ℕ) → k + suc c ≡ nodesAt r h → gather f (range (start m r h + suc k) c) ≡ span (firstIn h (suc k)) (entriesAt r h - firstIn h (suc k)) g
+          → f (start m r h + k) ++ gather f (range (suc (start m r h + k)) c) ≡ span (firstIn h k) (entriesAt r h - firstIn h k) g
       go zero e i =
           let a = held-rest r h k (omega arith) in
-          let z : entries r h - firstIn h k ≡ held r h k = omega arith in
+          let z : entriesAt r h - firstIn h k ≡ held r h k = omega arith in
           append-nil (f (start m r h + k)) ∙ each k (omega arith) ∙ ap (λ n. span (firstIn h k) n g) (sym z)
       go (suc c) e i =
           let a = held-full r h k (omega arith) in
@@ -69,20 +69,20 @@ module _ {A : Type 0} (m r h : ℕ) (f g : ℕ → List A) (each : (k : ℕ) →
           let w = nodes-low r h (suc k) (omega arith) in
           let z : suc (start m r h + k) ≡ start m r h + suc k = omega arith in
           let y : firstIn h (suc k) ≡ firstIn h k + held r h k = omega arith in
-          let x : held r h k + (entries r h - firstIn h (suc k)) ≡ entries r h - firstIn h k = omega arith in
+          let x : held r h k + (entriesAt r h - firstIn h (suc k)) ≡ entriesAt r h - firstIn h k = omega arith in
           ap (λ t. f (start m r h + k) ++ gather f (range t (suc c))) z
           ∙ ap (λ t. f (start m r h + k) ++ t) i
-          ∙ ap (λ t. t ++ span (firstIn h (suc k)) (entries r h - firstIn h (suc k)) g) (each k (omega arith))
-          ∙ ap (λ t. span (firstIn h k) (held r h k) g ++ span t (entries r h - firstIn h (suc k)) g) y
-          ∙ span-append (firstIn h k) (held r h k) (entries r h - firstIn h (suc k)) g
+          ∙ ap (λ t. t ++ span (firstIn h (suc k)) (entriesAt r h - firstIn h (suc k)) g) (each k (omega arith))
+          ∙ ap (λ t. span (firstIn h k) (held r h k) g ++ span t (entriesAt r h - firstIn h (suc k)) g) y
+          ∙ span-append (firstIn h k) (held r h k) (entriesAt r h - firstIn h (suc k)) g
           ∙ ap (λ n. span (firstIn h k) n g) x
 
-  pub all-entries : gather f (range (start m r h) (nodesAt r h)) ≡ span 0 (entries r h) g
+  pub all-entries : gather f (range (start m r h) (nodesAt r h)) ≡ span 0 (entriesAt r h) g
   all-entries =
       let z : start m r h + 0 ≡ start m r h = omega arith in
-      let x : entries r h - firstIn h 0 ≡ entries r h = omega (arith, first-zero h) in
+      let x : entriesAt r h - firstIn h 0 ≡ entriesAt r h = omega (arith, first-zero h) in
       ap (λ t. gather f (range t (nodesAt r h))) (sym z) ∙ entries-from 0 (nodesAt r h) (omega arith)
-      ∙ ap (λ t. span t (entries r h - firstIn h 0) g) (first-zero h) ∙ ap (λ n. span 0 n g) x
+      ∙ ap (λ t. span t (entriesAt r h - firstIn h 0) g) (first-zero h) ∙ ap (λ n. span 0 n g) x
 
 -- a span from another start, entry by entry
 pub span-move : {A : Type 0} (a n : ℕ) (f g : ℕ → List A) → ((i : ℕ) → i < n → f i ≡ g (a + i)) → span 0 n f ≡ span a n g

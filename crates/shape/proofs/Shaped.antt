@@ -5,7 +5,7 @@ use mathlib.Core.List.{List, [], _∷_}
 use Prim.Native.Nat.{ℕ, zero, suc, _+_, _≤_, _<_}
 use Rattle.btree.specs.Lists.{span}
 use Rattle.btree.specs.Tree.{View, mapChain}
-use Rattle.shape.specs.Shape.{firstIn, rowOf, nodesAt, held, start}
+use Rattle.shape.specs.Shape.{firstIn, recordUnder, nodesAt, held, start}
 
 -- nodes of the tree, of D levels
 unfoldable pub treeSize : ℕ → ℕ → ℕ
@@ -35,7 +35,7 @@ pub record Shaped (v : View) (K : ℕ → ℕ) (m r D : ℕ) : Type 0 where
   pub room : start m r D ≤ v .total
   pub chain : mapChain v ≡ range 1 m
   pub count : (h k : ℕ) → h < D → k < nodesAt r h → v .count (start m r h + k) ≡ held r h k
-  pub key : (h k i : ℕ) → h < D → k < nodesAt r h → i < held r h k → v .key (start m r h + k) i ≡ K (rowOf h (firstIn h k + i))
+  pub key : (h k i : ℕ) → h < D → k < nodesAt r h → i < held r h k → v .key (start m r h + k) i ≡ K (recordUnder h (firstIn h k + i))
   pub child : (h k i : ℕ) → suc h < D → k < nodesAt r (suc h) → i < held r (suc h) k → v .child (start m r (suc h) + k) i ≡ start m r h + (firstIn (suc h) k + i)
   pub forward : (h k : ℕ) → h < D → suc k < nodesAt r h → v .forward (start m r h + k) ≡ start m r h + suc k
   pub forwardEnd : (h k : ℕ) → h < D → suc k ≡ nodesAt r h → v .forward (start m r h + k) ≡ 0

@@ -10,7 +10,7 @@ use lib.ListN.{length}
 use Rattle.btree.specs.Lists.{_∈_, span, gather, head0, lastOr}
 use Rattle.btree.specs.Tree.{View, below, OnLevel, leavesAt, Linked, recordCount, SoundTree, LeafTotals}
 use Rattle.btree.proofs.Lists.{span-mem}
-use Rattle.shape.specs.Shape.{fanout, firstIn, rowOf, entries, nodesAt, held, start}
+use Rattle.shape.specs.Shape.{fanout, firstIn, recordUnder, entriesAt, nodesAt, held, start}
 use Rattle.shape.proofs.Shaped.{Deep, range, Shaped}
 use Rattle.shape.proofs.Shape.{first-suc, row-mono, row-le, row-step, row-inside, held-most, held-inside, held-some, start-low, start-mono, leaf-nodes, nodes-some}
 use Rattle.shape.proofs.Levels.{range-in, range-once, range-last, all-entries, span-move, counts-length, marks-length, level, leaves, Spot, spot}
@@ -31,10 +31,10 @@ module _ (v : View) (K : ℕ → ℕ) (m r D : ℕ) (deep : Deep r D) (s : Shape
   count-at : (h n : ℕ) → h < D → (p : At h n) → count n ≡ held r h (p .index)
   count-at h n l p = ap count (p .numbered) ∙ s .count h (p .index) l (p .inside)
 
-  key-at : (h n i : ℕ) → h < D → (p : At h n) → i < count n → v .key n i ≡ K (rowOf h (firstIn h (p .index) + i))
+  key-at : (h n i : ℕ) → h < D → (p : At h n) → i < count n → v .key n i ≡ K (recordUnder h (firstIn h (p .index) + i))
   key-at h n i l p u = ap (λ x. v .key x i) (p .numbered) ∙ s .key h (p .index) i l (p .inside) (let a = count-at h n l p in omega arith)
 
-  row-at : (h n i : ℕ) → h < D → (p : At h n) → i < count n → rowOf h (firstIn h (p .index) + i) < r
+  row-at : (h n i : ℕ) → h < D → (p : At h n) → i < count n → recordUnder h (firstIn h (p .index) + i) < r
   row-at h n i l p u = row-inside r h _ (held-inside r h (p .index) i (let a = count-at h n l p in omega arith))
 
   child-at : (h n i : ℕ) → suc h < D → (p : At (suc h) n) → i < count n → child n i ≡ start m r h + (firstIn (suc h) (p .index) + i)
@@ -46,10 +46,10 @@ module _ (v : View) (K : ℕ → ℕ) (m r D : ℕ) (deep : Deep r D) (s : Shape
   -- a node of height h whose rows are from a on and below b
   record Within (h a b n : ℕ) : Type 0 where
     it : At h n
-    low : (i : ℕ) → i < count n → a ≤ rowOf h (firstIn h (it .index) + i)
-    high : (i : ℕ) → i < count n → rowOf h (firstIn h (it .index) + i) < b
+    low : (i : ℕ) → i < count n → a ≤ recordUnder h (firstIn h (it .index) + i)
+    high : (i : ℕ) → i < count n → recordUnder h (firstIn h (it .index) + i) < b
 
-  here : (n h k : ℕ) → h < D → k < nodesAt r h → n ∈ below v 0 (start m r h + k) → Within h (rowOf (suc h) k) (rowOf (suc h) (suc k)) n
+  here : (n h k : ℕ) → h < D → k < nodesAt r h → n ∈ below v 0 (start m r h + k) → Within h (recordUnder (suc h) k) (recordUnder (suc h) (suc k)) n
   here n h k l u w =
       record {
         it = p;
@@ -60,10 +60,10 @@ module _ (v : View) (K : ℕ → ℕ) (m r D : ℕ) (deep : Deep r D) (s : Shape
       p : At h n
       p = record { index = k; numbered = List·Memᴰ·eq-of-singleton w; inside = u }
 
-  under : (n e h H k : ℕ) → e + h ≡ H → H < D → k < nodesAt r H → n ∈ below v e (start m r H + k) → Within h (rowOf (suc H) k) (rowOf (suc H) (suc k)) n
+  under : (n e h H k : ℕ) → e + h ≡ H → H < D → k < nodesAt r H → n ∈ below v e (start m r H + k) → Within h (recordUnder (suc H) k) (recordUnder (suc H) (suc k)) n
   under n zero h H k e l u w =
       let z : h ≡ H = omega arith in
-      subst (λ t. t < D → k < nodesAt r t → n ∈ below v 0 (start m r t + k) → Within h (rowOf (suc t) k) (rowOf (suc t) (suc k)) n) z (here n h k) l u w
+      subst (λ t. t < D → k < nodesAt r t → n ∈ below v 0 (start m r t + k) → Within h (recordUnder (suc t) k) (recordUnder (suc t) (suc k)) n) z (here n h k) l u w
   under n (suc e) h zero k q l u w = absurd (omega arith)
   under n (suc e) h (suc H) k q l u w =
       let x = start m r (suc H) + k in
@@ -97,7 +97,7 @@ module _ (v : View) (K : ℕ → ℕ) (m r D : ℕ) (deep : Deep r D) (s : Shape
     q : ℕ
     q = firstIn (suc H) (p .index) + i
 
-    t : Within (H - e) (rowOf (suc H) q) (rowOf (suc H) (suc q)) x
+    t : Within (H - e) (recordUnder (suc H) q) (recordUnder (suc H) (suc q)) x
     unfolding q
     t = under x e (H - e) H q (omega (arith, s .depth)) (omega (arith, s .depth)) (child-inside H n i deeper p u) (rw (child-at H n i deeper p u) at w)
 
@@ -180,7 +180,7 @@ module _ (v : View) (K : ℕ → ℕ) (m r D : ℕ) (deep : Deep r D) (s : Shape
           let c : At g (child n i) = record { index = firstIn (suc g) (p .index) + i; numbered = child-at g n i b p u; inside = child-inside g n i b p u } in
           let some : 0 < count (child n i) = omega (arith, count-at g (child n i) (omega arith) c, held-some r g (c .index) (c .inside)) in
           let z : firstIn g (c .index) + 0 ≡ firstIn g (c .index) = omega arith in
-          key-at (suc g) n i b p u ∙ ap K (row-step g (c .index)) ∙ sym (ap (λ t. K (rowOf g t)) z) ∙ sym (key-at g (child n i) 0 (omega arith) c some)
+          key-at (suc g) n i b p u ∙ ap K (row-step g (c .index)) ∙ sym (ap (λ t. K (recordUnder g t)) z) ∙ sym (key-at g (child n i) 0 (omega arith) c some)
 
   pub leaf-range : leavesAt v depth ≡ range (start m r 0) (nodesAt r 0)
   leaf-range = ap (leavesAt v) (s .depth) ∙ leaves v K m r D deep s D refl
@@ -196,7 +196,7 @@ module _ (v : View) (K : ℕ → ℕ) (m r D : ℕ) (deep : Deep r D) (s : Shape
   -- what the leaves give, one after another, where each gives what g gives of its records
   pub leaf-entries : {A : Type 0} (f g : ℕ → List A) → ((k : ℕ) → k < nodesAt r 0 → 0 < D → f (start m r 0 + k) ≡ span (firstIn 0 k) (held r 0 k) g)
       → gather f (range (start m r 0) (nodesAt r 0)) ≡ span 0 r g
-  unfolding entries
+  unfolding entriesAt
   leaf-entries f g each = all-entries m r 0 f g (λ k u. each k u (leaf-deep (omega arith)))
 
   marks : ℕ → List ℕ

@@ -7,12 +7,12 @@ use native.Mathlib.Omega.{arith}
 use lib.ListN.{length, replicate, replicate-append-replicate}
 use Rattle.btree.specs.Lists.{span}
 use Rattle.btree.proofs.Lists.{gather-append}
-use Rattle.shape.specs.Shape.{recordsIn, firstIn, rowOf, nodesAt, start, levels}
+use Rattle.shape.specs.Shape.{recordsIn, firstIn, recordUnder, nodesAt, start, levels}
 use Rattle.shape.proofs.Shape.{leaf-nodes, start-first, start-low, start-step, nodes-some, levels-most, levels-deep, records-few}
 use Rattle.shape.proofs.Shaped.{Deep}
-use Rattle.laid.specs.Laid.{mapsFor, mapNode, header, node, levelNodes, nodesOf, joined, laid}
+use Rattle.laid.specs.Laid.{mapsFor, mapNode, header, node, levelNodes, imageNodes, joined, laid}
 use Rattle.level_writer.specs.Parts.{leavesFrom, indexLevels, levelsSize, LevelsIn}
-use Rattle.tree_writer.specs.Room.{FrontIn, TreeIn, Room}
+use Rattle.tree_writer.specs.Target.{FrontIn, TreeIn, TargetIn}
 use Rattle.tree_writer.proofs.Upper.{joined-ones, levels-is, size-is, levels-in}
 
 zero-nodes : (n : ℕ) → joined (replicate n (replicate 512 0)) ≡ replicate (n * 512) 0
@@ -24,7 +24,7 @@ zero-nodes (suc n) =
 -- the leaves and the levels above them; no leaves where there is no level
 tree-is : (row : List ℕ) (m D n : ℕ) → n ≡ nodesAt (recordsIn row) 0 → Deep (recordsIn row) D
     → leavesFrom row (1 + m) 0 n ++ indexLevels row (D - 1) 2 (1 + m) n 440 ≡ joined (span 0 D (levelNodes row m (recordsIn row)))
-unfolding leavesFrom indexLevels rowOf firstIn
+unfolding leavesFrom indexLevels recordUnder firstIn
 tree-is row m zero n e deep =
     let z : n ≡ 0 = omega (arith, leaf-nodes (recordsIn row), deep .none refl) in
     rw z
@@ -50,7 +50,7 @@ tree-end m r (suc d) n e deep =
     let g = start-step m r 0 in
     rw (a, e) (omega (arith, rw c at b))
 
-module _ (row : List ℕ) (size maps depth root used : ℕ) (p : Room (length row) size maps depth root used) where
+module _ (row : List ℕ) (size maps depth root used : ℕ) (p : TargetIn (length row) size maps depth root used) where
   abbrev r : ℕ
   r = recordsIn row
 
@@ -94,7 +94,7 @@ module _ (row : List ℕ) (size maps depth root used : ℕ) (p : Room (length ro
       }
 
   pub tree-in : (n : ℕ) → n ≡ nodesAt r 0 → TreeIn size (512 + 512 * maps) (length row) maps depth n
-  unfolding LevelsIn rowOf firstIn
+  unfolding LevelsIn recordUnder firstIn
   tree-in n e =
       record {
         low = depth-most;
@@ -106,12 +106,12 @@ module _ (row : List ℕ) (size maps depth root used : ℕ) (p : Room (length ro
               numbers = omega (arith, leaves-most, maps-most);
               room = omega (arith, end-is n e, p .fits);
             };
-        levels = above depth refl;
+        levels = upper depth refl;
       }
     where
-      above : (d : ℕ) → d ≡ depth → LevelsIn size (length row) (d - 1) (512 + 512 * maps + 512 * n) (1 + maps) n 440
-      above zero l = tt
-      above (suc d) l =
+      upper : (d : ℕ) → d ≡ depth → LevelsIn size (length row) (d - 1) (512 + 512 * maps + 512 * n) (1 + maps) n 440
+      upper zero l = tt
+      upper (suc d) l =
           let a : suc d - 1 ≡ d = omega arith in
           let s = start-first maps r in
           let b : 512 * start maps r 1 ≡ 512 + 512 * maps + 512 * n = omega (arith, start-step maps r 0) in
@@ -122,7 +122,7 @@ module _ (row : List ℕ) (size maps depth root used : ℕ) (p : Room (length ro
   pub all-is : (n rest : ℕ) → n ≡ nodesAt r 0 → rest ≡ size - 512 * used
       → (header maps r depth (size / 512) ++ span 0 maps (mapNode maps used)) ++ ((leavesFrom row (1 + maps) 0 n ++ indexLevels row (depth - 1) 2 (1 + maps) n 440) ++ replicate rest 0)
       ≡ laid row (size / 512)
-  unfolding laid nodesOf
+  unfolding laid imageNodes
   all-is n rest e f =
       let z : rest ≡ (size / 512 - start maps r depth) * 512 = omega (arith, p .isUsed, p .nodes) in
       let h = header maps r depth (size / 512) in
@@ -134,5 +134,5 @@ module _ (row : List ℕ) (size maps depth root used : ℕ) (p : Room (length ro
       ∙ ap (λ x. h ++ (span 0 maps (mapNode maps (start maps r depth)) ++ x)) (sym (gather-append (λ x. x) t zs))
       ∙ ap (λ x. h ++ (x ++ joined (t ++ zs))) (sym (joined-ones (mapNode maps (start maps r depth)) 0 maps))
       ∙ ap (λ x. h ++ x) (sym (gather-append (λ x. x) ms (t ++ zs)))
-      ∙ ap (λ x. joined (nodesOf row x r depth (size / 512))) (p .isMaps)
-      ∙ ap (λ x. joined (nodesOf row (mapsFor (size / 512)) r x (size / 512))) (p .isDepth))
+      ∙ ap (λ x. joined (imageNodes row x r depth (size / 512))) (p .isMaps)
+      ∙ ap (λ x. joined (imageNodes row (mapsFor (size / 512)) r x (size / 512))) (p .isDepth))

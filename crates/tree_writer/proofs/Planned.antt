@@ -5,36 +5,36 @@ use Prim.Native.Nat.{ℕ, zero, suc, _+_, _-_, _/_, _≤_, _<_}
 use native.Mathlib.Omega.{arith}
 use native.Mathlib.Decide.{ℕ-discrete, decLe}
 use Rattle.btree.proofs.Decisions.{cond-yes, cond-no}
-use Rattle.shape.specs.Shape.{nodesAt, start, above, levels}
+use Rattle.shape.specs.Shape.{nodesAt, start, levelsAbove, levels}
 use Rattle.shape.proofs.Shape.{leaf-nodes, index-nodes, start-first, start-step}
 use Rattle.laid.specs.Laid.{mapsFor, rootFor}
 use Rattle.tree_writer.specs.Plan.{PlanOf}
 
-pub levels-from : (r : ℕ) → 0 < r → 1 + above 7 (nodesAt r 0) ≡ levels r
+pub levels-from : (r : ℕ) → 0 < r → 1 + levelsAbove 7 (nodesAt r 0) ≡ levels r
 unfolding levels
 levels-from r l =
-    sym (cond-no (ℕ-discrete r 0) 0 (suc (above 7 ((r + 21) / 22))) (λ e. omega arith) ∙ ap (λ x. suc (above 7 x)) (sym (leaf-nodes r)) ∙ (let z : suc (above 7 (nodesAt r 0)) ≡ 1 + above 7 (nodesAt r 0) = omega arith in z))
+    sym (cond-no (ℕ-discrete r 0) 0 (suc (levelsAbove 7 ((r + 21) / 22))) (λ e. omega arith) ∙ ap (λ x. suc (levelsAbove 7 x)) (sym (leaf-nodes r)) ∙ (let z : suc (levelsAbove 7 (nodesAt r 0)) ≡ 1 + levelsAbove 7 (nodesAt r 0) = omega arith in z))
 
 -- one level more, where there is more than one node
-pub above-on : (d n : ℕ) → d < 8 → 1 < n → d + above (8 - d) n ≡ d + 1 + above (8 - (d + 1)) ((n + 34) / 35)
-unfolding above
+pub above-on : (d n : ℕ) → d < 8 → 1 < n → d + levelsAbove (8 - d) n ≡ d + 1 + levelsAbove (8 - (d + 1)) ((n + 34) / 35)
+unfolding levelsAbove
 above-on d n l u =
     let z : 8 - d ≡ suc (8 - (d + 1)) = omega arith in
-    let e = cond-no (decLe n 1) 0 (suc (above (8 - (d + 1)) ((n + 34) / 35))) (λ h. omega arith) in
+    let e = cond-no (decLe n 1) 0 (suc (levelsAbove (8 - (d + 1)) ((n + 34) / 35))) (λ h. omega arith) in
     rw z (omega (arith, e))
 
-pub above-single : (f n : ℕ) → n ≤ 1 → above f n ≡ 0
-unfolding above
+pub above-single : (f n : ℕ) → n ≤ 1 → levelsAbove f n ≡ 0
+unfolding levelsAbove
 above-single zero n l = refl
-above-single (suc f) n l = cond-yes (decLe n 1) 0 (suc (above f ((n + 34) / 35))) l
+above-single (suc f) n l = cond-yes (decLe n 1) 0 (suc (levelsAbove f ((n + 34) / 35))) l
 
-pub above-none : (d n : ℕ) → 8 ≤ d → above (8 - d) n ≡ 0
-unfolding above
+pub above-none : (d n : ℕ) → 8 ≤ d → levelsAbove (8 - d) n ≡ 0
+unfolding levelsAbove
 above-none d n l = let z : 8 - d ≡ 0 = omega arith in rw z
 
 levels-none : (r : ℕ) → r ≡ 0 → levels r ≡ 0
 unfolding levels
-levels-none r e = cond-yes (ℕ-discrete r 0) 0 (suc (above 7 ((r + 21) / 22))) e
+levels-none r e = cond-yes (ℕ-discrete r 0) 0 (suc (levelsAbove 7 ((r + 21) / 22))) e
 
 pub plan-none : (m r : ℕ) → r ≡ 0 → PlanOf m r (record { depth = 0; root = 0; used = 1 + m })
 unfolding rootFor

@@ -11,7 +11,7 @@ use Rattle.put.specs.Put.{be32}
 use Rattle.btree.specs.Decide.{cond}
 use Rattle.btree.specs.Lists.{span}
 use Rattle.btree.proofs.Lists.{gather-append}
-use Rattle.shape.specs.Shape.{fanout, firstIn, rowOf, nodesAt, held, start}
+use Rattle.shape.specs.Shape.{fanout, firstIn, recordUnder, nodesAt, held, start}
 use Rattle.shape.proofs.Shape.{index-nodes, row-inside, row-linear, row-scale, start-step, start-mono}
 use Rattle.shape.proofs.Shaped.{Deep}
 use Rattle.shape.proofs.Levels.{span-same}
@@ -25,14 +25,14 @@ joined-ones f i zero = refl
 joined-ones f i (suc n) = ap (λ x. f i ++ x) (joined-ones f (suc i) n)
 
 -- the keys of an index node are as far apart as the records under its children
-far : (h k : ℕ) → rowOf (suc h) (k * 35) * 20 ≡ k * (35 * (rowOf (suc h) 1 * 20))
+far : (h k : ℕ) → recordUnder (suc h) (k * 35) * 20 ≡ k * (35 * (recordUnder (suc h) 1 * 20))
 far h k =
-    ap (λ x. x * 20) (row-scale (suc h) (k * 35) ∙ mul-assoc k 35 (rowOf (suc h) 1))
-    ∙ mul-assoc k (35 * rowOf (suc h) 1) 20 ∙ ap (λ x. k * x) (mul-assoc 35 (rowOf (suc h) 1) 20)
+    ap (λ x. x * 20) (row-scale (suc h) (k * 35) ∙ mul-assoc k 35 (recordUnder (suc h) 1))
+    ∙ mul-assoc k (35 * recordUnder (suc h) 1) 20 ∙ ap (λ x. k * x) (mul-assoc 35 (recordUnder (suc h) 1) 20)
 
-next-step : (h : ℕ) → 35 * (rowOf (suc h) 1 * 20) ≡ rowOf (suc (suc h)) 1 * 20
-unfolding rowOf firstIn
-next-step h = let e = far h 1 in let z : 1 * (35 * (rowOf (suc h) 1 * 20)) ≡ 35 * (rowOf (suc h) 1 * 20) = omega arith in sym z ∙ sym e
+next-step : (h : ℕ) → 35 * (recordUnder (suc h) 1 * 20) ≡ recordUnder (suc (suc h)) 1 * 20
+unfolding recordUnder firstIn
+next-step h = let e = far h 1 in let z : 1 * (35 * (recordUnder (suc h) 1 * 20)) ≡ 35 * (recordUnder (suc h) 1 * 20) = omega arith in sym z ∙ sym e
 
 held-index : (r h k : ℕ) → held r (suc h) k ≡ min 35 (nodesAt r h - 35 * k)
 unfolding held fanout firstIn
@@ -43,28 +43,28 @@ unfolding firstIn
 first-index h k = refl
 
 module _ (row : List ℕ) (m r : ℕ) where
-  index-span : (h q c : ℕ) → span q c (entry row m r (suc h)) ≡ indexed c (rowOf (suc h) q * 20) (rowOf (suc h) 1 * 20) (start m r h + q) row
+  index-span : (h q c : ℕ) → span q c (entry row m r (suc h)) ≡ indexed c (recordUnder (suc h) q * 20) (recordUnder (suc h) 1 * 20) (start m r h + q) row
   unfolding entry indexed
   index-span h q zero = refl
   index-span h q (suc c) =
       let w : q + 1 ≡ suc q = omega arith in
       let e = row-linear (suc h) q 1 in
-      let z : rowOf (suc h) (suc q) * 20 ≡ rowOf (suc h) q * 20 + rowOf (suc h) 1 * 20 = omega (arith, rw w at e) in
+      let z : recordUnder (suc h) (suc q) * 20 ≡ recordUnder (suc h) q * 20 + recordUnder (suc h) 1 * 20 = omega (arith, rw w at e) in
       let y : start m r h + suc q ≡ start m r h + q + 1 = omega arith in
-      ap (λ x. (take 8 (drop (rowOf (suc h) q * 20) row) ++ be32 (start m r h + q)) ++ x)
-      (index-span h (suc q) c ∙ ap (λ x. indexed c x (rowOf (suc h) 1 * 20) (start m r h + suc q) row) z
-      ∙ ap (λ x. indexed c (rowOf (suc h) q * 20 + rowOf (suc h) 1 * 20) (rowOf (suc h) 1 * 20) x row) y)
+      ap (λ x. (take 8 (drop (recordUnder (suc h) q * 20) row) ++ be32 (start m r h + q)) ++ x)
+      (index-span h (suc q) c ∙ ap (λ x. indexed c x (recordUnder (suc h) 1 * 20) (start m r h + suc q) row) z
+      ∙ ap (λ x. indexed c (recordUnder (suc h) q * 20 + recordUnder (suc h) 1 * 20) (recordUnder (suc h) 1 * 20) x row) y)
 
   -- an index node
   pub index-is : (h k : ℕ)
       → node row m r (suc h) k
       ≡ indexNode (cond (decLt (suc k) (nodesAt r (suc h))) (start m r (suc h) + suc k) 0) (backTo (start m r (suc h)) k) (suc (suc h)) (held r (suc h) k)
-      (rowOf (suc h) (firstIn (suc h) k) * 20) (rowOf (suc h) 1 * 20) (start m r h + firstIn (suc h) k) row
+      (recordUnder (suc h) (firstIn (suc h) k) * 20) (recordUnder (suc h) 1 * 20) (start m r h + firstIn (suc h) k) row
   unfolding node indexNode framed sizeAt kindAt
   index-is h k = rw (index-span h (firstIn (suc h) k) (held r (suc h) k))
 
   -- node k of a level, as it is written
-  level-node : (h k : ℕ) → indexAt (suc (suc h)) (start m r (suc h)) (nodesAt r (suc h)) (start m r h) (nodesAt r h) (rowOf (suc h) 1 * 20) row k ≡ node row m r (suc h) k
+  level-node : (h k : ℕ) → indexAt (suc (suc h)) (start m r (suc h)) (nodesAt r (suc h)) (start m r h) (nodesAt r h) (recordUnder (suc h) 1 * 20) row k ≡ node row m r (suc h) k
   unfolding indexAt
   level-node h k =
       let y : k + 1 ≡ suc k = omega arith in
@@ -73,7 +73,7 @@ module _ (row : List ℕ) (m r : ℕ) where
       ∙ rw (held-index r h k, first-index h k, far h k, z, y))
 
   -- so many levels from height h + 1 on
-  pub levels-is : (f h : ℕ) → indexLevels row f (h + 2) (start m r h) (nodesAt r h) (rowOf (suc h) 1 * 20) ≡ joined (span (suc h) f (levelNodes row m r))
+  pub levels-is : (f h : ℕ) → indexLevels row f (h + 2) (start m r h) (nodesAt r h) (recordUnder (suc h) 1 * 20) ≡ joined (span (suc h) f (levelNodes row m r))
   unfolding indexLevels
   levels-is zero h = refl
   levels-is (suc f) h =
@@ -95,14 +95,14 @@ size-is m r (suc f) h =
     rw (z, sym (index-nodes r h)) (omega arith)
 
 module _ (m r D size len : ℕ) (deep : Deep r D) (few : start m r D ≤ 65536) (room : 512 * start m r D ≤ size) (long : r * 20 ≤ len) (short : len ≤ 33554432) where
-  reach : (h q : ℕ) → q < nodesAt r h → q * (rowOf (suc h) 1 * 20) + 8 ≤ len
+  reach : (h q : ℕ) → q < nodesAt r h → q * (recordUnder (suc h) 1 * 20) + 8 ≤ len
   reach h q l =
       let a = row-inside r (suc h) q l in
       let e = row-scale (suc h) q in
-      let g = mul-assoc q (rowOf (suc h) 1) 20 in
+      let g = mul-assoc q (recordUnder (suc h) 1) 20 in
       omega arith
 
-  pub levels-in : (f h : ℕ) → suc h + f ≡ D → LevelsIn size len f (512 * start m r (suc h)) (start m r h) (nodesAt r h) (rowOf (suc h) 1 * 20)
+  pub levels-in : (f h : ℕ) → suc h + f ≡ D → LevelsIn size len f (512 * start m r (suc h)) (start m r h) (nodesAt r h) (recordUnder (suc h) 1 * 20)
   unfolding LevelsIn
   levels-in zero h e = tt
   levels-in (suc f) h e = rw (sym (index-nodes r h), sym (start-step m r h), next-step h, next-at) (this, levels-in f (suc h) (omega arith))
@@ -113,10 +113,10 @@ module _ (m r D size len : ℕ) (deep : Deep r D) (few : start m r D ≤ 65536) 
       next-at : 512 * start m r (suc h) + 512 * nodesAt r (suc h) ≡ 512 * start m r (suc (suc h))
       next-at = let b = start-step m r (suc h) in omega arith
 
-      near : rowOf (suc h) 1 * 20 ≤ len
-      near = let a = reach h 1 (deep .more h (omega arith)) in let z : 1 * (rowOf (suc h) 1 * 20) ≡ rowOf (suc h) 1 * 20 = omega arith in omega arith
+      near : recordUnder (suc h) 1 * 20 ≤ len
+      near = let a = reach h 1 (deep .more h (omega arith)) in let z : 1 * (recordUnder (suc h) 1 * 20) ≡ recordUnder (suc h) 1 * 20 = omega arith in omega arith
 
-      this : LevelIn size (512 * start m r (suc h)) len (start m r (suc h)) (nodesAt r (suc h)) (start m r h) (nodesAt r h) (rowOf (suc h) 1 * 20)
+      this : LevelIn size (512 * start m r (suc h)) len (start m r (suc h)) (nodesAt r (suc h)) (start m r h) (nodesAt r h) (recordUnder (suc h) 1 * 20)
       this =
           record {
             nodes = index-nodes r h;

@@ -1,4 +1,4 @@
--- The numbers of a fresh tree, and when a target has room for it.
+-- The numbers of a fresh tree.
 -- Assumes nothing.
 use mathlib.Core.Path.{_≡_}
 use Prim.Native.Nat.{ℕ}

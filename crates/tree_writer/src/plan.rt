@@ -23,7 +23,7 @@ pub fn maps_for(nodes: usize) -> usize
     (nodes - 2_048 + 3_951) / 3_952
 }
 
-// The leaves of so many records.
+// The leaves of so many records; no row is so long that it has 10 to the 18.
 pub fn leaves_for(records: usize) -> usize
     requires { ⌜ records < 1000000000000000000 ⌝ }
     ensures { λ r. ⌜ (r ≡ nodesAt records 0) × (r < 50000000000000000) ⌝ }

@@ -8,7 +8,7 @@ ghost use Rattle.btree.specs.Lists.{span};
 ghost use Rattle.shape.specs.Shape.{nodesAt};
 ghost use Rattle.laid.specs.Laid.{header, mapNode, firstFor, lastFor, laid};
 ghost use Rattle.level_writer.specs.Parts.{leavesFrom, indexLevels, levelsSize};
-ghost use Rattle.tree_writer.specs.Room.{FrontIn, TreeIn, Room};
+ghost use Rattle.tree_writer.specs.Target.{FrontIn, TreeIn, TargetIn};
 use super::plan::leaves_for;
 use level_writer::index_levels;
 use level_writer::leaf_level;
@@ -30,7 +30,7 @@ fn first_leaf(depth: u32, maps: u32) -> u32
     if depth == 0 { 0 } else { 1 + maps }
 }
 
-// The last leaf, which it names too.
+// The last leaf, which the header names too.
 fn last_leaf(depth: u32, maps: u32, leaves: u32) -> u32
     requires { ⌜ (maps ≤ 20) × (leaves ≤ 65536) × (0 < depth → 0 < leaves) ⌝ }
     ensures { λ r. ⌜ ((records : ℕ) → leaves ≡ nodesAt records 0 → r ≡ lastFor maps records depth) ⌝ }
@@ -80,7 +80,7 @@ fn lay_tree(target: &mut [u8], at: usize, row: &[u8], maps: u32, depth: u32, lea
 
 // The whole image.
 pub fn lay(row: &[u8], target: &mut [u8], maps: u32, depth: u32, root: u32, used: u32)
-    requires { ⌜ Room (length (now row)) (length (now target)) maps depth root used ⌝ }
+    requires { ⌜ TargetIn (length (now row)) (length (now target)) maps depth root used ⌝ }
     ensures { λ _. ⌜ now (target .exit) ≡ laid (now (row .entry)) (length (now (target .entry)) / 512) ⌝ }
 {
     let nodes = (target.len() / 512) as u32;

@@ -25,11 +25,11 @@ use Rattle.laid.specs.Laid.{laid, wanted}
 use Rattle.leaf_rows.specs.Row.{RowLaw, decRowLaw}
 use Rattle.laid.proofs.Result.{row-length, sound-maps, sound-wants, laid-length, laid-maps, laid-sound, laid-row, laid-least}
 use Rattle.writing.specs.Written.{nodesIn, writeAnswer, written}
-use Rattle.writing.specs.Demands.{Holds, IsFresh, WriteSays}
+use Rattle.writing.specs.Demands.{HoldsRow, IsFresh, WriteSays}
 
 module _ (row target : List ℕ) where
   -- an image that holds the row shows that it fits
-  wants : (l : Lengths (layoutOf hfs) target) (image : List ℕ) → Holds row target image → wanted row (nodesIn target) ≤ nodesIn target
+  wants : (l : Lengths (layoutOf hfs) target) (image : List ℕ) → HoldsRow row target image → wanted row (nodesIn target) ≤ nodesIn target
   unfolding wanted
   wants l image h =
       let a = row-length image (h .sound) in
@@ -42,7 +42,7 @@ module _ (row target : List ℕ) where
     few : nodesIn target ≤ 65536
     few = omega (arith, l .few)
 
-    holds : Holds row target image
+    holds : HoldsRow row target image
     holds =
         record {
           sound = laid-sound row (nodesIn target) law few room;

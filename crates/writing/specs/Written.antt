@@ -13,7 +13,7 @@ use Rattle.frame.specs.Form.{hfs, layoutOf}
 use Rattle.laid.specs.Laid.{laid, wanted}
 use Rattle.leaf_rows.specs.Row.{decRowLaw}
 
--- whole nodes of a target
+-- how many whole nodes a target has
 abbrev pub nodesIn : List ℕ → ℕ
 nodesIn target = length target / 512
 
@@ -26,5 +26,6 @@ module _ (row target : List ℕ) where
       (unless (says (decRowLaw row)) (fails 19 imageStart)
       (unless (says (decLe (wanted row (nodesIn target)) (nodesIn target))) (fails 20 imageStart) fine))
 
+  -- what the target then holds: the image, on 0; else "target untouched"
   unfoldable pub written : List ℕ
   written = ifZero (writeAnswer .number) (laid row (nodesIn target)) target

@@ -1,4 +1,4 @@
-// The writer of extents overflow files of HFS volumes. Any bytes are a row and any are a target; nobody has to have checked them first.
+// The writer of extents overflow files of HFS volumes. Any bytes will do as a row, and any as a target; nobody has to have checked them first.
 ghost use mathlib.Core.Path.{_≡_};
 ghost use Rattle.writing.specs.Written.{writeAnswer, written};
 ghost use Rattle.writing.specs.Demands.{WriteSays};

@@ -15,14 +15,14 @@ link-requires c κs = search needs
 describe-requires : tie.Need-describe-requires
 describe-requires c κs = search needs
 
-half-requires : tie.Need-half-requires
-half-requires c κs = search needs
+number16-requires : tie.Need-number16-requires
+number16-requires c κs = search needs
 
-word-requires : tie.Need-word-requires
-word-requires c κs = search needs
+number32-requires : tie.Need-number32-requires
+number32-requires c κs = search needs
 
-word-requires-2 : tie.Need-word-requires-2
-word-requires-2 c κs = search needs
+number32-requires-2 : tie.Need-number32-requires-2
+number32-requires-2 c κs = search needs
 
 same-length : tie.Need-same-length
 same-length c = search needs
@@ -31,7 +31,7 @@ returns : tie.Need-returns
 unfolding front
 returns c =
     same (ap (λ f. described f 0 1 0 3 ++ (be16 (c .before .before .before .before .before .before .before .before .before .before .before .before .before .before .before .before .before .before .args .depth) ++ (be32 (c .before .before .before .before .before .before .before .before .before .before .before .before .before .before .before .before .before .before .args .root) ++ be32 (c .before .before .before .before .before .before .before .before .before .before .before .before .before .before .before .before .before .before .args .records)))) (c .before .before .before .before .before .before .before .before .before .before .before .before .before .before .before .before .link .ensures))
-    (then (c .before .before .before .before .before .before .before .before .before .before .before .before .before .before .describe .ensures) (then (c .before .before .before .before .before .before .before .before .before .before .half .ensures) (then (c .before .before .before .before .before .before .word .ensures) (c .before .before .word2 .ensures))))
+    (then (c .before .before .before .before .before .before .before .before .before .before .before .before .before .before .describe .ensures) (then (c .before .before .before .before .before .before .before .before .before .before .number16 .ensures) (then (c .before .before .before .before .before .before .number32 .ensures) (c .before .before .number322 .ensures))))
 
 pub header-front-spec : {M : Type 1} → statement M
 header-front-spec =
@@ -39,8 +39,8 @@ header-front-spec =
     (tie.spec
     link-requires
     describe-requires
-    half-requires
-    word-requires
-    word-requires-2
+    number16-requires
+    number32-requires
+    number32-requires-2
     same-length
     returns)

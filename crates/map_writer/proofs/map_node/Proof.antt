@@ -24,11 +24,11 @@ add-map-part c = search needs
 map-part-requires : tie.Need-map-part-requires
 map-part-requires c κs = search needs
 
-half-requires : tie.Need-half-requires
-half-requires c κs = search needs
+number16-requires : tie.Need-number16-requires
+number16-requires c κs = search needs
 
-half-requires-2 : tie.Need-half-requires-2
-half-requires-2 c κs = search needs
+number16-requires-2 : tie.Need-number16-requires-2
+number16-requires-2 c κs = search needs
 
 same-length : tie.Need-same-length
 same-length c = search needs
@@ -37,7 +37,7 @@ returns : tie.Need-returns
 unfolding mapNode
 returns c =
     same (map-linked _ _ (c .before .before .before .before .before .before .before .before .before .before .before .before .before .before .before .before .link .result) (c .before .before .before .before .before .before .before .before .before .before .before .before .before .before .before .before .link .ensures) _)
-    (then (c .before .before .before .before .before .before .before .before .before .before .before .before .before .before .describe .ensures) (then (c .before .before .before .before .before .before .before .before .before .before .map-part .ensures) (then (c .before .before .before .before .before .before .half .ensures) (c .before .before .half2 .ensures))))
+    (then (c .before .before .before .before .before .before .before .before .before .before .before .before .before .before .describe .ensures) (then (c .before .before .before .before .before .before .before .before .before .before .map-part .ensures) (then (c .before .before .before .before .before .before .number16 .ensures) (c .before .before .number162 .ensures))))
 
 pub map-node-spec : {M : Type 1} → statement M
 map-node-spec =
@@ -49,7 +49,7 @@ map-node-spec =
     mul-map-part
     add-map-part
     map-part-requires
-    half-requires
-    half-requires-2
+    number16-requires
+    number16-requires-2
     same-length
     returns)

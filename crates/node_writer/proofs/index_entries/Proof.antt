@@ -28,11 +28,11 @@ key-part-requires c κs =
     let s = c .before .before .before .before .before in
     (omega (arith, l .inv .4, l .inv .2, s .pre .0), omega (arith, s .pre .2 .reach (l .i) (c .before .loop-test .taken), l .inv .3))
 
-add-word : tie.Need-add-word Inv-loop μ-loop
-add-word c = search needs
+add-number32 : tie.Need-add-number32 Inv-loop μ-loop
+add-number32 c = search needs
 
-word-requires : tie.Need-word-requires Inv-loop μ-loop
-word-requires c κs = search needs
+number32-requires : tie.Need-number32-requires Inv-loop μ-loop
+number32-requires c κs = search needs
 
 add-place : tie.Need-add-place Inv-loop μ-loop
 add-place c =
@@ -51,12 +51,12 @@ loop-again c =
     let l = c .before .before .before .before .before .before .before .before .before .loop in
     let s = c .before .before .before .before .before .before .before .before .before .before .before .before .args in (
       search needs,
-      turn _ (then (c .before .before .before .before .before .before .key-part .ensures) (c .before .before .word .ensures))
+      turn _ (then (c .before .before .before .before .before .before .key-part .ensures) (c .before .before .number32 .ensures))
           ∙ ap (put (l .target) (l .a)) (sym (indexed-on (s .count) (l .i) (l .place) (s .step) (s .child) (s .row .now) (c .before .before .before .before .before .before .before .before .loop-test .taken)))
           ∙ l .inv .1,
       search needs,
       ap (λ x. x + s .step) (l .inv .3) ∙ step-on (s .from) (l .i) (s .step),
-      c .before .before .word .kept .0 ∙ c .before .before .before .before .before .before .key-part .kept .0 ∙ l .inv .4,
+      c .before .before .number32 .kept .0 ∙ c .before .before .before .before .before .before .key-part .kept .0 ∙ l .inv .4,
     )
 
 same-length : tie.Need-same-length Inv-loop μ-loop
@@ -80,8 +80,8 @@ index-entries-spec =
     μ-loop
     loop-holds
     key-part-requires
-    add-word
-    word-requires
+    add-number32
+    number32-requires
     add-place
     add-i
     loop-less

@@ -22,8 +22,8 @@ abbrev μ-loop : tie.MeasureT-loop
 loop-holds : tie.Need-loop-holds Inv-loop μ-loop
 loop-holds c = (search needs, refl, refl, refl, search needs)
 
-half-requires : tie.Need-half-requires Inv-loop μ-loop
-half-requires c κs = search needs
+number16-requires : tie.Need-number16-requires Inv-loop μ-loop
+number16-requires c κs = search needs
 
 sub-word : tie.Need-sub-word Inv-loop μ-loop
 sub-word c =
@@ -41,15 +41,15 @@ loop-again c =
     let l = c .before .before .before .before .before .loop in
     let g = c .before .before .before .before .loop-test .taken in (
       search needs,
-      turn (offsets (c .before .before .before .before .before .before .before .args .size) (l .k - 1)) (c .before .before .half .ensures)
+      turn (offsets (c .before .before .before .before .before .before .before .args .size) (l .k - 1)) (c .before .before .number16 .ensures)
           ∙ ap (put (l .target) (l .a)) (ap (λ x. be16 x ++ offsets (c .before .before .before .before .before .before .before .args .size) (l .k - 1)) (l .inv .4) ∙ sym (offsets-on (c .before .before .before .before .before .before .before .args .size) (l .k) g)) ∙ l .inv .1,
       search needs,
-      c .before .before .half .kept .0 ∙ l .inv .3,
+      c .before .before .number16 .kept .0 ∙ l .inv .3,
       omega (arith, less-one (l .k) (c .before .before .before .before .before .before .before .args .size) g, l .inv .4),
     )
 
-half-requires-2 : tie.Need-half-requires-2 Inv-loop μ-loop
-half-requires-2 c κs = search needs
+number16-requires-2 : tie.Need-number16-requires-2 Inv-loop μ-loop
+number16-requires-2 c κs = search needs
 
 same-length : tie.Need-same-length Inv-loop μ-loop
 same-length c = search needs
@@ -57,7 +57,7 @@ same-length c = search needs
 returns : tie.Need-returns Inv-loop μ-loop
 returns c =
     let l = c .before .before .before .before .before .loop in
-    last (ap (put (l .target) (l .a)) (sym (offsets-end _ (l .k) (c .before .before .before .before .loop-test .left))) ∙ l .inv .1) (omega arith) (offsets-long _ _) (c .before .before .half2 .ensures)
+    last (ap (put (l .target) (l .a)) (sym (offsets-end _ (l .k) (c .before .before .before .before .loop-test .left))) ∙ l .inv .1) (omega arith) (offsets-long _ _) (c .before .before .number162 .ensures)
 
 pub offset-words-spec : {M : Type 1} → statement M
 offset-words-spec =
@@ -66,11 +66,11 @@ offset-words-spec =
     Inv-loop
     μ-loop
     loop-holds
-    half-requires
+    number16-requires
     sub-word
     sub-k
     loop-less
     loop-again
-    half-requires-2
+    number16-requires-2
     same-length
     returns)

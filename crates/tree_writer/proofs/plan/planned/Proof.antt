@@ -3,7 +3,7 @@ use mathlib.Core.Path.{_≡_, sym, ap, _∙_}
 use Prim.Native.Nat.{_+_, _-_, _*_, _≤_, _<_}
 use native.Mathlib.Omega.{arith}
 use borrow.Author.Needs.{needs}
-use Rattle.shape.specs.Shape.{nodesAt, start, above, levels}
+use Rattle.shape.specs.Shape.{nodesAt, start, levelsAbove, levels}
 use Rattle.shape.proofs.Shape.{start-first}
 use Rattle.tree_writer.proofs.Planned.{levels-from, above-on, above-single, above-none, plan-none, plan-some, next-nodes, next-start}
 use Rattle.tree_writer.proofs.plan.planned.Statement.{statement}
@@ -11,7 +11,7 @@ use Rattle.tree_writer.proofs.plan.planned.Tie as tie
 
 abbrev Inv-loop : tie.InvT-loop
 Inv-loop maps records root₀ n₀ depth₀ root n depth =
-    (1 ≤ depth) × (depth ≤ 8) × (n ≡ nodesAt records (depth - 1)) × (root ≡ start maps records (depth - 1)) × (depth + above (8 - depth) n ≡ levels records)
+    (1 ≤ depth) × (depth ≤ 8) × (n ≡ nodesAt records (depth - 1)) × (root ≡ start maps records (depth - 1)) × (depth + levelsAbove (8 - depth) n ≡ levels records)
     × (n < 50000000000000000) × (root ≤ 21 + 50000000000000000 * depth)
 
 abbrev μ-loop : tie.MeasureT-loop
@@ -31,7 +31,7 @@ loop-holds c =
     let s = c .before .before in
     let n = c .leaves-for .ensures in
     let l = levels-from (s .args .records) (omega (arith, c .before .if1 .left)) in
-    (omega arith, omega arith, n .0, sym (start-first _ _), ap (λ x. 1 + above 7 x) (n .0) ∙ l, n .1, omega (arith, s .pre))
+    (omega arith, omega arith, n .0, sym (start-first _ _), ap (λ x. 1 + levelsAbove 7 x) (n .0) ∙ l, n .1, omega (arith, s .pre))
 
 add-t8 : tie.Need-add-t8 Inv-loop μ-loop
 add-t8 c = search needs

@@ -6,7 +6,7 @@ use Rattle.shape.specs.Shape.{nodesAt, start, levels}
 use Rattle.laid.specs.Laid.{mapsFor, rootFor}
 use Rattle.level_writer.specs.Parts.{LeavesOf, LevelsIn}
 
--- room in size bytes for the header and the map nodes, with the header's numbers
+-- room in size bytes for the header and the map nodes, with the header's numbers; the largest target needs 17 map nodes
 pub record FrontIn (size maps depth root records n nodes used : ℕ) : Type 0 where
   pub room : 512 + 512 * maps ≤ size
   pub few : maps ≤ 20
@@ -25,7 +25,7 @@ pub record TreeIn (size at len maps depth n : ℕ) : Type 0 where
   pub levels : LevelsIn size len (depth - 1) (at + 512 * n) (1 + maps) n 440
 
 -- room for all of the image of a row of len bytes, with its numbers
-pub record Room (len size maps depth root used : ℕ) : Type 0 where
+pub record TargetIn (len size maps depth root used : ℕ) : Type 0 where
   pub whole : len % 20 ≡ 0
   pub nodes : size % 512 ≡ 0
   pub few : size ≤ 33554432
