@@ -17,6 +17,7 @@ use Rattle.btree.specs.Tree.{reached}
 use Rattle.btree.specs.Header.{Format, viewOf}
 use Rattle.btree.specs.Tests.{bitFor}
 use Rattle.btree.specs.Work.{bitsFor, bitmap, untouching, soundNumbers, needed, neededLeft, workLeft, Leaves}
+use Rattle.btree.proofs.Lists.{ones-length}
 use Rattle.btree.proofs.Decisions.{cond-yes, cond-no}
 use Rattle.btree.proofs.MapBits.{bit-head, bit-tail, bit-for, bit-not}
 
@@ -74,8 +75,7 @@ module _ (nodes : List ℕ) where
       ap (λ (y : ℕ). y ∷ xs) e ∙ ap (λ (ys : List ℕ). bitsFor nodes (8 * first) 8 ∷ ys) r
 
   bitmap-size : (first size : ℕ) → length (span first size (λ i. bitsFor nodes (8 * i) 8 ∷ [])) ≡ size
-  bitmap-size first zero = refl
-  bitmap-size first (suc size) = let r = bitmap-size (suc first) size in omega arith
+  bitmap-size first size = ones-length first size _
 
   bitmap-bit : (first size k : ℕ) → k < 8 * size → bitOf (span first size (λ i. bitsFor nodes (8 * i) 8 ∷ [])) k ≡ bitFor nodes (8 * first + k)
   bitmap-bit first zero k h = absurd (omega arith)

@@ -10,11 +10,10 @@ use lib.ListN.{length, getD, take, drop, replicate, length-append, length-drop, 
 use lib.Seq.{length-take-le}
 use Rattle.btree.specs.Decide.{cond}
 use Rattle.btree.specs.Lists.{_∈_, span}
-use Rattle.btree.proofs.Lists.{span-mem}
+use Rattle.btree.proofs.Lists.{ones-length, span-mem}
 use Rattle.put.specs.Put.{be16}
 use Rattle.shape.specs.Shape.{fanout, firstIn, recordUnder, entriesAt, nodesAt, held, start}
 use Rattle.shape.proofs.Shape.{row-inside, held-most, held-inside, start-mono, start-low}
-use Rattle.shape.proofs.Levels.{ones-length}
 use Rattle.laid.specs.Laid.{described, mapPart, mapNode, offsets, sizeAt, kindAt, backTo, headerStart, header, entry, node, levelNodes, imageNodes}
 use Rattle.laid.proofs.Bytes.{skip, ones-at, span-length}
 

@@ -11,7 +11,7 @@ use Rattle.btree.specs.Tree.{OnLevel, leavesAt, treeNodes, recordCount}
 use Rattle.btree.specs.Header.{depthOf, totalOf, countOf, mapNodes, viewOf}
 use Rattle.btree.specs.Image.{Sound}
 use Rattle.btree.specs.Search.{recordOf, recordsOf, leafList}
-use Rattle.btree.proofs.Lists.{gather-mem, part-length}
+use Rattle.btree.proofs.Lists.{ones-length, gather-mem, part-length}
 use Rattle.btree.proofs.Leaves.{record-mem, leafList-leaves}
 use Rattle.frame.specs.Form.{hfs, keySize, nodeMapOf, layoutOf}
 use Rattle.frame.specs.Kinds.{kindOn, levelOf}
@@ -22,7 +22,7 @@ use Rattle.formats.proofs.Starts.{record-inside}
 use Rattle.shape.specs.Shape.{recordsIn, fanout, start, levels}
 use Rattle.shape.proofs.Shape.{leaf-nodes, start-low, start-size, levels-most, levels-deep, records-few}
 use Rattle.shape.proofs.Shaped.{treeSize, Deep, range}
-use Rattle.shape.proofs.Levels.{ones-length, counts-length}
+use Rattle.shape.proofs.Levels.{counts-length}
 use Rattle.shape.proofs.Fewest.{leaves-least, tree-least}
 use Rattle.shape.proofs.Reach.{tree-length}
 use Rattle.leaf_rows.specs.Row.{RowLaw, bytesOf, leafRow}

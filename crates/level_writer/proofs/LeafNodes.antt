@@ -1,7 +1,7 @@
 -- What the code writes of a leaf is the leaf that is laid down, and the turns of the loop over the leaves.
 -- Assumes nothing.
 use mathlib.Core.Path.{_≡_, refl, sym, ap, _∙_}
-use mathlib.Core.List.{List, [], _++_}
+use mathlib.Core.List.{List, _++_}
 use Prim.Native.Nat.{ℕ, zero, suc, _+_, _-_, _*_, _/_, _%_, _≤_, _<_, min}
 use native.Mathlib.Omega.{arith}
 use native.Mathlib.Decide.{decLt}
@@ -15,6 +15,7 @@ use Rattle.laid.specs.Laid.{sizeAt, kindAt, backTo, entry, node}
 use Rattle.laid.proofs.Bytes.{span-length}
 use Rattle.laid.proofs.Nodes.{node-length}
 use Rattle.node_writer.specs.Parts.{framed, leafNode}
+use Rattle.node_writer.proofs.Spans.{span-on}
 use Rattle.level_writer.specs.Parts.{leavesFrom}
 
 cut-span : (row : List ℕ) (q c : ℕ) → span q c (λ q. take 20 (drop (q * 20) row)) ≡ take (c * 20) (drop (q * 20) row)
@@ -69,29 +70,14 @@ leaf-turn row s n k to f b w p e l t ef eb =
     ∙ ap (λ x. leafNode f b (take x (drop (firstIn 0 k * 20) row))) eH
     ∙ ap (λ x. leafNode f b (take (to - 440 * k) (drop x row))) eF
 
--- the turn of the loop over the leaves
+-- what is written of leaf k, and what is left after it
 pub leaves-on : (row : List ℕ) (s n k to f b : ℕ) → length row % 20 ≡ 0 → 1 ≤ s → n ≡ (length row / 20 + 21) / 22 → k < n
     → to - 440 * k ≡ min 440 (length row - 440 * k) → f ≡ cond (decLt (k + 1) n) (s + (k + 1)) 0 → b ≡ backTo s k
     → leafNode f b (take (to - 440 * k) (drop (440 * k) row)) ++ leavesFrom row s (k + 1) (n - (k + 1)) ≡ leavesFrom row s k (n - k)
-unfolding leavesFrom
 leaves-on row s n k to f b w p e l t ef eb =
-    let r = length row / 20 in
-    let z : n - k ≡ suc (n - (k + 1)) = omega arith in
-    let y : k + 1 ≡ suc k = omega arith in
-    rw z (rw y (ap (λ x. x ++ span (suc k) (n - suc k) (node row (s - 1) r 0)) (sym one)))
-  where
-    one : node row (s - 1) (length row / 20) 0 k ≡ leafNode f b (take (to - 440 * k) (drop (440 * k) row))
-    one = leaf-turn row s n k to f b w p e l t ef eb
-
-pub leaves-end : (row : List ℕ) (s n k : ℕ) → n ≤ k → leavesFrom row s k (n - k) ≡ []
-unfolding leavesFrom
-leaves-end row s n k l = let z : n - k ≡ 0 = omega arith in rw z
-
-pub leaves-start : (row : List ℕ) (s n : ℕ) → leavesFrom row s 0 (n - 0) ≡ leavesFrom row s 0 n
-leaves-start row s n = ap (leavesFrom row s 0) (let z : n - 0 ≡ n = omega arith in z)
+    ap (λ x. x ++ leavesFrom row s (k + 1) (n - (k + 1))) (sym (leaf-turn row s n k to f b w p e l t ef eb)) ∙ span-on (node row (s - 1) (length row / 20) 0) n k l
 
 pub leaves-long : (row : List ℕ) (s n : ℕ) → length row % 20 ≡ 0 → length (leavesFrom row s 0 n) ≡ 512 * n
-unfolding leavesFrom
 leaves-long row s n w =
     span-length 512 0 n (node row (s - 1) (length row / 20) 0) (λ j l u. node-length row (s - 1) (length row / 20) (omega arith) 0 j) ∙ omega arith
 

@@ -19,7 +19,7 @@ pub record LeavesOf (size at len s n : ℕ) : Type 0 where
   pub room : at + 512 * n ≤ size
 
 -- n leaves of a row from leaf k on, where the first leaf is node s
-unfoldable pub leavesFrom : (row : List ℕ) (s k n : ℕ) → List ℕ
+abbrev pub leavesFrom : (row : List ℕ) (s k n : ℕ) → List ℕ
 leavesFrom row s k n = span k n (node row (s - 1) (length row / 20) 0)
 
 -- node k of an index level of n nodes, from node s on, over e children, the first of which is `child`; keys are `step` bytes apart

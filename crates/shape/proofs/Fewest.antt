@@ -8,10 +8,11 @@ use native.Mathlib.Decide.{ℕ-discrete, decLe}
 use lib.ListN.{length, length-append}
 use Rattle.btree.specs.Lists.{_∈_, span}
 use Rattle.btree.specs.Tree.{View, below, OnLevel, leavesAt, treeNodes, recordCount}
+use Rattle.btree.proofs.Lists.{ones-length}
 use Rattle.shape.specs.Shape.{fanout, firstIn, entriesAt, nodesAt}
 use Rattle.shape.proofs.Shaped.{treeSize, Deep}
 use Rattle.shape.proofs.Shape.{first-suc, group-least, leaf-nodes}
-use Rattle.shape.proofs.Levels.{ones-length, below-last, counts-length}
+use Rattle.shape.proofs.Levels.{below-last, counts-length}
 
 size-mono : (r a b : ℕ) → a ≤ b → treeSize r a ≤ treeSize r b
 unfolding treeSize

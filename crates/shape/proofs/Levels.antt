@@ -7,7 +7,7 @@ use native.Mathlib.Omega.{arith}
 use lib.ListN.{length, length-append}
 use Rattle.btree.specs.Lists.{_∈_, span, gather, lastOr, Distinct}
 use Rattle.btree.specs.Tree.{View, below, OnLevel, leavesAt, recordCount}
-use Rattle.btree.proofs.Lists.{span-mem, mem-span, gather-span}
+use Rattle.btree.proofs.Lists.{ones-length, span-mem, mem-span, gather-span}
 use Rattle.shape.specs.Shape.{firstIn, entriesAt, nodesAt, held, start}
 use Rattle.shape.proofs.Shaped.{Deep, range, Shaped}
 use Rattle.shape.proofs.Shape.{first-zero, first-suc, nodes-all, nodes-low, held-full, held-rest, leaf-nodes}
@@ -89,11 +89,6 @@ pub span-move : {A : Type 0} (a n : ℕ) (f g : ℕ → List A) → ((i : ℕ) �
 span-move a n f g e =
     let z : a + 0 ≡ a = omega arith in
     span-same 0 n f (λ i. g (a + i)) (λ i l u. e i (omega arith)) ∙ span-shift a 0 n g ∙ ap (λ t. span t n g) z
-
--- one of each
-pub ones-length : {A : Type 0} (i n : ℕ) (f : ℕ → A) → length (span i n (λ j. f j ∷ [])) ≡ n
-ones-length i zero f = refl
-ones-length i (suc n) f = ap suc (ones-length (suc i) n f)
 
 pub marks-length : (i n : ℕ) → length {A = ℕ} (span i n (λ j. 0 ∷ [])) ≡ n
 marks-length i n = ones-length i n (λ j. 0)

@@ -24,7 +24,7 @@ zero-nodes (suc n) =
 -- the leaves and the levels above them; no leaves where there is no level
 tree-is : (row : List ℕ) (m D n : ℕ) → n ≡ nodesAt (recordsIn row) 0 → Deep (recordsIn row) D
     → leavesFrom row (1 + m) 0 n ++ indexLevels row (D - 1) 2 (1 + m) n 440 ≡ joined (span 0 D (levelNodes row m (recordsIn row)))
-unfolding leavesFrom indexLevels recordUnder firstIn
+unfolding indexLevels recordUnder firstIn
 tree-is row m zero n e deep =
     let z : n ≡ 0 = omega (arith, leaf-nodes (recordsIn row), deep .none refl) in
     rw z

@@ -5,8 +5,9 @@ use native.Mathlib.Omega.{arith}
 use lib.ListN.{length}
 use Rattle.put.specs.Put.{put}
 use Rattle.put.proofs.Laws.{turn, put-none}
+use Rattle.node_writer.proofs.Spans.{span-start, span-end}
 use Rattle.level_writer.specs.Parts.{leavesFrom}
-use Rattle.level_writer.proofs.LeafNodes.{leaves-on, leaves-end, leaves-start, leaves-long, part-fits}
+use Rattle.level_writer.proofs.LeafNodes.{leaves-on, leaves-long, part-fits}
 use borrow.Author.Needs.{needs}
 use Rattle.level_writer.proofs.leaf_level.Statement.{statement}
 use Rattle.level_writer.proofs.leaf_level.Tie as tie
@@ -19,7 +20,7 @@ abbrev μ-loop : tie.MeasureT-loop
 μ-loop t₀ at row s n a₀ k₀ t a k = n - k
 
 loop-holds : tie.Need-loop-holds Inv-loop μ-loop
-loop-holds c = (search needs, rw leaves-start, search needs, refl)
+loop-holds c = (search needs, rw span-start, search needs, refl)
 
 cast-from : tie.Need-cast-from Inv-loop μ-loop
 cast-from c = search needs
@@ -82,7 +83,7 @@ returns c =
     let l = c .before .loop in
     let s = c .before .before .before .before in
     record {
-      bytes = sym (put-none (l .target) (l .a)) ∙ ap (put (l .target) (l .a)) (sym (leaves-end _ _ _ (l .k) (c .loop-test .left))) ∙ l .inv .1;
+      bytes = sym (put-none (l .target) (l .a)) ∙ ap (put (l .target) (l .a)) (sym (span-end _ _ (l .k) (c .loop-test .left))) ∙ l .inv .1;
       next = omega arith;
       long = leaves-long _ _ _ (s .pre .whole);
     }
