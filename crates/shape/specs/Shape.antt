@@ -1,6 +1,6 @@
 -- W-209: the numbers of the tree laid down for r records: "leaves of 22 records, the last with the rest, then index levels of 35 likewise, root last".
--- Heights count from the leaves, which are at height 0: height h is W-201's level h + 1. What a height holds are its entries: records at height 0, and above that one for each node of the
--- height below.
+-- Heights count from the leaves, which are at height 0: height h is W-201's level h + 1. What a height holds are its entries: records at height 0, and above
+-- that one for each node of the height below.
 -- Assumes nothing.
 use mathlib.Core.List.{List}
 use Prim.Native.Nat.{ℕ, zero, suc, _+_, _-_, _*_, _/_, min}
@@ -32,6 +32,7 @@ unfoldable pub recordUnder : ℕ → ℕ → ℕ
 recordUnder zero q = q
 recordUnder (suc h) q = recordUnder h (firstIn h q)
 
+-- how many entries a height has, and how many nodes
 unfoldable pub entriesAt : ℕ → ℕ → ℕ
 entriesAt r zero = r
 entriesAt r (suc h) = groups h (entriesAt r h)
