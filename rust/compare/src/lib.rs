@@ -17,6 +17,5 @@ mod tally;
 pub mod write;
 
 pub use comparison::Comparison;
-pub use keys::packed;
 pub use seed::seed;
 pub use tally::Tally;
