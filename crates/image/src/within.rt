@@ -2,7 +2,7 @@
 ghost use mathlib.Core.Path.{_≡_};
 ghost use Prim.Native.Nat.{_+_, _<_, _≤_};
 ghost use lib.ListN.{length, getD};
-ghost use Rattle.image.specs.Bytes.{be16At, be32At};
+ghost use Rattle.image.specs.Bytes.{be16At, be32At, be64At};
 
 // The bound is what shows that a sum of shifted bytes fits.
 pub fn wide(x: u8) -> u32
@@ -36,4 +36,16 @@ pub fn be32_in(image: &[u8], at: usize) -> u32
     let third = wide(image[at + 2]);
     let fourth = wide(image[at + 3]);
     ((first * 256 + second) * 256 + third) * 256 + fourth
+}
+
+// Two bytes by two, so that one load reads all eight.
+pub fn be64_in(image: &[u8], at: usize) -> u64
+    requires { ⌜ at + 8 ≤ length (now image) ⌝ }
+    ensures { λ r. ⌜ r ≡ be64At (now (image .entry)) at ⌝ }
+{
+    let first = be16_in(image, at) as u64;
+    let second = be16_in(image, at + 2) as u64;
+    let third = be16_in(image, at + 4) as u64;
+    let fourth = be16_in(image, at + 6) as u64;
+    first * 281_474_976_710_656 + second * 4_294_967_296 + third * 65_536 + fourth
 }

@@ -1,3 +1,4 @@
 pub mod Bits
+pub mod SameBytes
 pub mod Searched
 pub mod MapTests

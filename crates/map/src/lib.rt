@@ -11,6 +11,7 @@ ghost use Rattle.map.specs.Framed.{Framed, wrongOf};
 use btree::Verdict;
 use btree::at_byte;
 use btree::at_node;
+use eights::same_bytes;
 use frame::form::Form;
 use frame::form::header_map;
 use frame::form::node_map;
@@ -18,6 +19,8 @@ use frame::node::forward_of;
 use frame::node::start_of;
 use image::bytes::be32;
 use image::bytes::byte_at;
+
+mod eights;
 
 // The lowest wrong bit. Maps of 65,536 nodes can have more bits than a u32 counts.
 pub enum Wrong {
@@ -31,7 +34,7 @@ fn wrong_in(map: &[u8], bits: &[u8], first: usize) -> Wrong
     ensures { λ r. ⌜ wrongOf r ≡ lowestWrong (bitOf (now (bits .entry))) (8 * first) (now (map .entry)) ⌝ }
 {
     let mut found = Wrong::Nowhere;
-    let mut i: usize = 0;
+    let mut i: usize = same_bytes(map, bits, first);
     'bytes: while i < map.len() {
         let x = map[i] as u32;
         let y = byte_at(bits, first + i);

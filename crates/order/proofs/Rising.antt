@@ -3,7 +3,7 @@
 use mathlib.Core.Path.{_≡_, refl}
 use mathlib.Core.Option.{Option, none, some}
 use Prim.Native.Nat.{ℕ, zero, suc, pred, _+_, _-_, _<_, _≤_}
-use native.Mathlib.Nat.{add-suc, add-zero}
+use native.Mathlib.Nat.{add-suc, add-zero, zero-add}
 use native.Mathlib.Numerals.{add-one}
 use native.Mathlib.Omega.{arith}
 use Rattle.btree.specs.Tree.{View}
@@ -27,7 +27,10 @@ module _ (v : View) (n : ℕ) (a : Ascends v n) where
       let q = up i d (omega arith) in
       rw e (omega arith)
 
-  to-last : (i : ℕ) → i < count n → key n i ≤ key n (count n - 1)
+  pub from-first : (i : ℕ) → i < count n → key n 0 ≤ key n i
+  from-first i h = let q = up 0 i (omega arith) in rw (zero-add i) at q
+
+  pub to-last : (i : ℕ) → i < count n → key n i ≤ key n (count n - 1)
   to-last i h =
       let e : i + (count n - 1 - i) ≡ count n - 1 = omega arith in
       let q = up i (count n - 1 - i) (omega arith) in

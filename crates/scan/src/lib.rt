@@ -10,17 +10,22 @@ ghost use Rattle.scan.specs.Seen.{seenIn, seenFrom};
 use btree::Hit;
 use btree::Salvage;
 use extent_keys::key::SortKey;
+use fast_nodes::leaf::is_whole;
 use formats::records::record_place;
 use frame::form::Form;
-use order::whole::is_whole;
+use outside::is_outside;
 use record::record_with;
 
+pub mod outside;
 pub mod record;
 
 fn seen_in(form: Form, image: &[u8], node: u32, key: SortKey, name: &[u8]) -> Hit
     requires { ⌜ NodeIn form (now image) node ⌝ }
     ensures { λ r. ⌜ r ≡ hitOf (seenIn form (now (image .entry)) (askedRank form key (now (name .entry))) node) ⌝ }
 {
+    if is_outside(form, image, node, key) {
+        return Hit::Nowhere;
+    }
     if !is_whole(form, image, node) {
         return Hit::Nowhere;
     }

@@ -43,6 +43,9 @@ small-stopped b w t s = record { records = s .records; nodes = s .nodes }
 pub nodes-fit : (b : List ℕ) (w : Walk) → Small (state b w) → w .nodes < 1000000
 nodes-fit b w s = omega (arith, s .nodes, ones-le b 65536)
 
+pub records-most : (b : List ℕ) (w : Walk) → Small (state b w) → w .records < 4294967296
+records-most b w s = omega (arith, s .records, ones-le b 65536)
+
 -- a node that is not marked yet
 module _ (b : List ℕ) (w : Walk) (n : ℕ) (range : n < 65536) (room : n / 8 < length b) (unmarked : bitOf b n ≡ 0) (c : ℕ) (count : c < 65536) (s : Small (state b w)) where
   more : ones (withBit b n) 65536 ≡ ones b 65536 + 1

@@ -1,3 +1,4 @@
 pub mod State
+pub mod Formed
 pub mod Room
 pub mod Ready

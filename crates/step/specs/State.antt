@@ -1,7 +1,7 @@
 -- What the walk of a tree keeps, and a step of it.
 -- Assumes nothing.
 use mathlib.Core.Bool.{Bool, false}
-use mathlib.Core.List.{List}
+use mathlib.Core.List.{List, [], _∷_}
 use Prim.Native.Nat.{ℕ, _+_}
 use lib.Dec.{eqb, ltb}
 use lib.ListN.{getD, set}
@@ -65,3 +65,8 @@ lastAt w d = getD (w .last) d 0
 -- the tests at an entry, and what is kept of it; a state with a fault stays
 unfoldable pub step : View → State → Entry → State
 step v s e = ifZero (s .rest .number) (landed v s e (test v (freshIn (v .total) (s .bits) (e .node)) (lastAt (s .rest) (e .level)) e)) s
+
+-- a step at each entry, one after another
+unfoldable pub steps : View → State → List Entry → State
+steps v s [] = s
+steps v s (e ∷ es) = steps v (step v s e) es

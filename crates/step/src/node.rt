@@ -8,11 +8,14 @@ ghost use Rattle.formats.specs.Format.{view};
 ghost use Rattle.frame.specs.Form.{Fair};
 ghost use Rattle.frame.specs.Inside.{NodeIn};
 ghost use Rattle.step.specs.State.{freshIn, entry};
+ghost use Rattle.step.specs.Formed.{Formed};
+ghost use Rattle.btree.specs.declared.Place.{Place};
 use btree::Hit;
 use btree::Place;
 use btree::Verdict;
 use btree::at_byte;
 use btree::at_node;
+use fast_nodes::node::node_passes;
 use formats::records::record_place;
 use frame::form::Form;
 use frame::node::back_of;
@@ -42,6 +45,24 @@ pub fn leads(form: Form, image: &[u8], p: u32, node: u32) -> bool
     forward_of(form, image, p) == node
 }
 
+// Tests 5 and 6, which most nodes surely pass; only where one may not is the fault looked for.
+fn formed(form: Form, image: &[u8], node: u32, level: u32, low: usize, high: usize) -> Verdict
+    requires { ⌜ NodeIn form (now image) node × (level < 8) × (low < 1000000000000000) × (high < 1000000000000000) ⌝ }
+    ensures { λ r. ⌜ ((from : Place) → Formed (view form (now (image .entry))) (entry form (now (image .entry)) node from level low high) r) ⌝ }
+{
+    if node_passes(form, image, node, level, low, high) {
+        return at_node(0, 0);
+    }
+    if !node_right(form, image, node, level) {
+        return at_node(5, node);
+    }
+    if let Hit::At(i) = wrong_key(form, image, node, low, high) {
+        let place = record_place(form, image, node, i);
+        return Verdict { number: 6, place };
+    }
+    at_node(0, 0)
+}
+
 // The tests at a node whose number stands at `from`: 4, 5, 6, 7. Of the walk they need whether the node is fresh, and the node met before it on its level.
 pub fn tested(
     form: Form,
@@ -63,12 +84,9 @@ pub fn tested(
             place: from,
         };
     }
-    if !node_right(form, image, node, level) {
-        return at_node(5, node);
-    }
-    if let Hit::At(i) = wrong_key(form, image, node, low, high) {
-        let place = record_place(form, image, node, i);
-        return Verdict { number: 6, place };
+    let t = formed(form, image, node, level, low, high);
+    if t.number != 0 {
+        return t;
     }
     if back_of(form, image, node) != p {
         return at_byte(7, node, 4);

@@ -16,9 +16,9 @@ use Rattle.walk.specs.declared.visit.Pointer.{Pointer}
 use Rattle.frame.specs.declared.form.Form.{Form}
 use Rattle.formats.specs.Format.{view}
 use Rattle.order.specs.Bound.{bound}
-use Rattle.step.specs.State.{State, step}
+use Rattle.step.specs.State.{State, step, steps}
 use Rattle.step.proofs.Lands.{step-stuck}
-use Rattle.walk.specs.Visit.{steps, Points}
+use Rattle.walk.specs.Visit.{Points}
 
 module _ (v : View) where
   pub steps-append : (s : State) (xs ys : List Entry) → steps v s (xs ++ ys) ≡ steps v (steps v s xs) ys

@@ -1,21 +1,15 @@
--- A visit of a node, with all below it: steps one after another, and where a record leads.
+-- Where a record of an index node leads.
 -- Assumes nothing.
 use mathlib.Core.Path.{_≡_}
 use mathlib.Core.Option.{some}
-use mathlib.Core.List.{List, [], _∷_}
+use mathlib.Core.List.{List}
 use Prim.Native.Nat.{ℕ, _<_}
 use Rattle.btree.specs.Places.{childPlace}
-use Rattle.btree.specs.Tree.{View}
-use Rattle.btree.specs.Walk.{Entry, above}
+use Rattle.btree.specs.Walk.{above}
 use Rattle.frame.specs.declared.form.Form.{Form}
 use Rattle.formats.specs.Format.{view}
 use Rattle.order.specs.Bound.{bound}
-use Rattle.step.specs.State.{State, step}
 use Rattle.walk.specs.declared.visit.Pointer.{Pointer}
-
-unfoldable pub steps : View → State → List Entry → State
-steps v s [] = s
-steps v s (e ∷ es) = steps v (step v s e) es
 
 -- record i of a node: its child and where the child's number stands, the key that points there, and the bound of the keys there
 pub record Points (form : Form) (img : List ℕ) (n i high : ℕ) (p : Pointer) : Type 0 where

@@ -5,9 +5,9 @@ ghost use Rattle.btree.specs.Walk.{entries};
 ghost use Rattle.order.specs.Bound.{bound};
 ghost use Rattle.frame.specs.Form.{Fair};
 ghost use Rattle.formats.specs.Format.{view};
-ghost use Rattle.step.specs.State.{state};
+ghost use Rattle.step.specs.State.{state, steps};
 ghost use Rattle.step.specs.Ready.{Ready, Gives};
-ghost use Rattle.walk.specs.Visit.{steps, Points};
+ghost use Rattle.walk.specs.Visit.{Points};
 use btree::Place;
 use formats::records::child_place;
 use formats::records::record_at;
@@ -15,6 +15,8 @@ use frame::form::Form;
 use frame::form::key_size;
 use frame::node::count_of;
 use image::bytes::be32;
+use leaf_run::run::leaf_run;
+use leaf_run::run::ran;
 use step::state::Walk;
 use step::stepped;
 
@@ -79,20 +81,18 @@ pub fn visit(
         if x.number != 0 {
             return x;
         }
+        // The leaves that surely pass cost no visit each.
+        let d = level + 1;
+        let run = leaf_run(form, image, bits, x, node, i, c, level, below, high);
+        x = ran(x, d, run);
+        i += run.count;
+        if i >= c {
+            return x;
+        }
         let p = pointer_at(form, image, node, i, c, high);
         let from = p.from;
-        x = visit(
-            form,
-            image,
-            bits,
-            x,
-            p.child,
-            from,
-            level + 1,
-            below - 1,
-            p.low,
-            p.high,
-        );
+        let h = below - 1;
+        x = visit(form, image, bits, x, p.child, from, d, h, p.low, p.high);
         i += 1;
     }
     x

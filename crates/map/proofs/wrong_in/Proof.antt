@@ -9,6 +9,7 @@ use Rattle.image.specs.Bit.{bitOf}
 use Rattle.btree.specs.Tests.{wrongIn, orSome, lowestWrong}
 use Rattle.map.specs.declared.Wrong.the-variants.{Nowhere}
 use Rattle.map.proofs.Bits.{bit-right, bit-wrong, bits-end, byte-more, bytes-end, same-masked, masked-same, same-byte}
+use Rattle.map.proofs.SameBytes.{after-same}
 use borrow.Author.Needs.{needs}
 use Rattle.map.proofs.wrong_in.Statement.{statement}
 use Rattle.map.proofs.wrong_in.Tie as tie
@@ -27,8 +28,14 @@ Inv-bytes map bits first found₀ i₀ found i = (found ≡ Nowhere) × (i ≤ l
 abbrev μ-bytes : tie.MeasureT-bytes
 μ-bytes map bits first found₀ i₀ found i = length map - i
 
+same-bytes-requires : tie.Need-same-bytes-requires Inv-bits μ-bits Inv-bytes μ-bytes
+same-bytes-requires c κs = search needs
+
 bytes-holds : tie.Need-bytes-holds Inv-bits μ-bits Inv-bytes μ-bytes
-bytes-holds c = (search needs, search needs, let e : c .before .before .args .first + 0 ≡ c .before .before .args .first = omega arith in rw e)
+bytes-holds c =
+    let a = c .before .before .before .args in
+    let s = c .same-bytes .ensures in
+    (search needs, s .0, after-same (a .map .now) (a .bits .now) (a .first) _ (s .0) (s .1))
 
 shared-slice-read-x : tie.Need-shared-slice-read-x Inv-bits μ-bits Inv-bytes μ-bytes
 shared-slice-read-x c = search needs
@@ -77,7 +84,7 @@ bits-less c = search needs
 
 bits-again : tie.Need-bits-again Inv-bits μ-bits Inv-bytes μ-bytes
 bits-again c =
-    let a = c .before .before .before .before .before .before .before .before .before .before .args in
+    let a = c .before .before .before .before .before .before .before .before .before .before .before .args in
     let i = c .before .before .before .before .before .before .before .bytes .i in
     let j = c .before .before .bits .j in
     let inv = c .before .before .bits .inv .2 in
@@ -104,7 +111,7 @@ returns c = rw (c .before .bytes .inv .0) (sym (c .before .bytes .inv .2 ∙ byt
 
 returns-2 : tie.Need-returns-2 Inv-bits μ-bits Inv-bytes μ-bytes
 returns-2 c =
-    let a = c .before .before .before .before .before .before .before .before .before .before .args in
+    let a = c .before .before .before .before .before .before .before .before .before .before .before .args in
     let i = c .before .before .before .before .before .before .before .bytes .i in
     let j = c .before .before .bits .j in
     let inv = c .before .before .bits .inv .2 in
@@ -120,6 +127,7 @@ wrong-in-spec =
     μ-bits
     Inv-bytes
     μ-bytes
+    same-bytes-requires
     bytes-holds
     shared-slice-read-x
     cast-x

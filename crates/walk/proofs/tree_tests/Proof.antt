@@ -9,9 +9,8 @@ use mathlib.Core.Path.{_≡_, refl, sym, _∙_}
 use Rattle.btree.specs.Places.{imageStart, rootField}
 use Rattle.btree.specs.Walk.{entries}
 use Rattle.btree.specs.Header.{viewOf}
-use Rattle.walk.specs.Visit.{steps}
 use Rattle.walk.proofs.Agree.{Agrees, tree-none, found-fault, found-none, found-agree}
-use Rattle.step.specs.State.{state}
+use Rattle.step.specs.State.{state, steps}
 use Rattle.formats.specs.Format.{view}
 use Rattle.order.proofs.Bounds.{bound-none}
 use Rattle.walk.proofs.Finish.{begun, ended, faulted, no-levels}

@@ -1,0 +1,5 @@
+pub mod Turns
+pub mod Numbers
+pub mod Surely
+pub mod Rising
+pub mod Fours
