@@ -12,7 +12,8 @@ use Rattle.btree.specs.declared.Place.{Place}
 use Rattle.btree.specs.Tree.{Rec}
 use Rattle.btree.specs.Search.{placeOf}
 use Rattle.extent_keys.specs.Key.{asked}
-use Rattle.extent_keys.proofs.Order.{InRange, Bytes}
+use Rattle.image.proofs.Words.{Bytes}
+use Rattle.extent_keys.proofs.Order.{InRange}
 use Rattle.catalog_keys.specs.Key.{Key}
 use Rattle.catalog_entries.specs.declared.Entry.{Entry}
 use Rattle.catalog_entries.specs.declared.Entry.the-variants as kind

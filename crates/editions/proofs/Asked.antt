@@ -8,7 +8,8 @@ use Rattle.btree.specs.Decide.{says}
 use Rattle.frame.specs.Form.{formOf}
 use Rattle.extent_keys.specs.declared.key.Key.{Key}
 use Rattle.extent_keys.specs.Key.{decLawful, keyAt, rank}
-use Rattle.extent_keys.proofs.Order.{InRange, Bytes, key-range, rank-same}
+use Rattle.image.proofs.Words.{Bytes}
+use Rattle.extent_keys.proofs.Order.{InRange, key-range, rank-same}
 use Rattle.reader.specs.Reader.{lookedUp, lookedUpBy, salvaged, salvagedBy}
 use Rattle.reader.proofs.Demands.{Means, lookup-by}
 use Rattle.reader.proofs.Matches.{salvage-by}

@@ -19,7 +19,8 @@ use Rattle.btree.proofs.Checked.{checked-not}
 use Rattle.frame.specs.declared.form.Form.{Form}
 use Rattle.frame.specs.Form.{Listed, decListed, layoutOf}
 use Rattle.extent_keys.specs.declared.key.Key.{Key}
-use Rattle.extent_keys.proofs.Order.{InRange, Bytes, short-start}
+use Rattle.image.proofs.Words.{Bytes}
+use Rattle.extent_keys.proofs.Order.{InRange, short-start}
 use Rattle.formats.specs.Format.{formatOf}
 use Rattle.reader.specs.Reader as reader
 use Rattle.reader.specs.Demands as demands

@@ -12,7 +12,8 @@ use Rattle.frame.specs.Form.{formOf, Fair}
 use Rattle.frame.specs.Kinds.{leafKind}
 use Rattle.extent_keys.specs.declared.key.Key.{Key}
 use Rattle.extent_keys.specs.Key.{Lawful, keyAt, rank}
-use Rattle.extent_keys.proofs.Order.{InRange, Bytes, key-range, rank-fork}
+use Rattle.image.proofs.Words.{Bytes}
+use Rattle.extent_keys.proofs.Order.{InRange, key-range, rank-fork}
 use Rattle.formats.specs.Format.{recordAt, view}
 use Rattle.formats.proofs.Starts.{start-extents}
 use Rattle.reader.specs.Reader.{Sound, leafList}

@@ -7,7 +7,7 @@ use Prim.Native.Nat.{ℕ, suc, _+_, _*_, _/_, _%_, _<_, _≤_}
 use native.Mathlib.Nat.{mul-le-mul-right, suc-mul}
 use native.Mathlib.Omega.{arith}
 use lib.IntN.{ℤ, pos}
-use lib.ListN.{getD}
+use Rattle.image.proofs.Words.{Bytes}
 use Rattle.image.specs.Bytes.{be16At, be32At}
 use Rattle.btree.specs.Ranked.{ranked}
 use Rattle.btree.proofs.Ranked.{ranked-same, ranked-zero, by-field}
@@ -74,10 +74,6 @@ module _ (a b : Key) where
 -- keys compare as 0 exactly when their numbers are equal
 pub rank-same : (a b : Key) → InRange a → InRange b → (compared a b ≡ pos 0) ↔ (rank a ≡ rank b)
 rank-same a b ra rb = (λ e. ranked-zero _ _ _ (sym (rank-order a b ra rb) ∙ e) .0, λ e. rank-order a b ra rb ∙ ranked-same _ _ _ e)
-
--- every byte of the image is one
-abbrev pub Bytes : List ℕ → Type 0
-Bytes img = (i : ℕ) → getD img i 0 < 256
 
 module _ (form : Form) (img : List ℕ) (at : ℕ) where
   pub key-hfs : form .edition ≡ 0 → keyAt form img at ≡ hfsKeyAt img at

@@ -32,7 +32,8 @@ use Rattle.frame.specs.Form.{hfs, layoutOf}
 use Rattle.frame.proofs.Forms.{hfs-listed, fair, fits}
 use Rattle.extent_keys.specs.declared.key.Key.{Key}
 use Rattle.extent_keys.specs.Key.{Lawful, decLawful, keyAt, rank}
-use Rattle.extent_keys.proofs.Order.{InRange, Bytes, key-range, rank-order}
+use Rattle.image.proofs.Words.{Bytes}
+use Rattle.extent_keys.proofs.Order.{InRange, key-range, rank-order}
 use Rattle.extent_nodes.specs.Records.{dataSize}
 use Rattle.formats.specs.Format.{formatOf, recordAt}
 use Rattle.reader.proofs.Parts.{listed-inside}

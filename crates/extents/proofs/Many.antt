@@ -17,7 +17,7 @@ use Rattle.btree.proofs.Checked.{check-says, checked-not}
 use Rattle.frame.specs.Form.{hfs, layoutOf}
 use Rattle.frame.proofs.Forms.{hfs-listed, fair, fits}
 use Rattle.formats.specs.Format.{formatOf}
-use Rattle.extent_keys.proofs.Order.{Bytes}
+use Rattle.image.proofs.Words.{Bytes}
 use Rattle.search.specs.Rows.{resultIn, filled, Placeable}
 use Rattle.search.proofs.Searched.{searchable}
 use Rattle.search.proofs.Filled.{filled-at, filled-beyond, filled-whole}

@@ -23,7 +23,8 @@ use Rattle.extent_keys.specs.declared.key.Key.{Key}
 use Rattle.extent_keys.specs.Key.{rank, packed, IsShort, unpacked, keyLimit, IsKey, decKey}
 use Rattle.extent_nodes.specs.Records.{dataSize}
 use Rattle.formats.specs.Format.{formatOf}
-use Rattle.extent_keys.proofs.Order.{InRange, Bytes, unpacked-range, unpacked-packed}
+use Rattle.image.proofs.Words.{Bytes}
+use Rattle.extent_keys.proofs.Order.{InRange, unpacked-range, unpacked-packed}
 use Rattle.search.specs.Rows.{resultOf, resultIn}
 use Rattle.search.proofs.Filled.{result-no-key, result-key}
 use Rattle.extents.specs.Reader.{view, Sound, needed, checked, lookedUp, leafList, dataPart}

@@ -12,7 +12,7 @@ use Rattle.btree.specs.Header.{countOf, viewOf}
 use Rattle.frame.specs.declared.form.Form.{Form}
 use Rattle.frame.specs.Form.{hfs, layoutOf, keySize}
 use Rattle.frame.specs.Kinds.{leafKind, indexKind, kindOn, kindOf}
-use Rattle.extent_keys.proofs.Order.{Bytes}
+use Rattle.image.proofs.Words.{Bytes}
 use Rattle.extent_nodes.specs.Records.{dataSize, recordSize, startIn, startAt, KeyLaw}
 use Rattle.extent_nodes.proofs.Lawfully.{law-hfs}
 use Rattle.btree.specs.Walk.{Under, Meets}

@@ -6,7 +6,8 @@ use Prim.Native.Nat.{ℕ, _<_}
 use Rattle.image.specs.Bytes.{be64At}
 use Rattle.frame.specs.declared.form.Form.{Form}
 use Rattle.extent_keys.specs.Key.{rank, hfsKeyAt}
-use Rattle.extent_keys.proofs.Order.{Bytes, key-hfs}
+use Rattle.image.proofs.Words.{Bytes}
+use Rattle.extent_keys.proofs.Order.{key-hfs}
 use Rattle.formats.specs.Format.{rankAt}
 use Rattle.formats.proofs.Ranks.{rank-extents}
 use Rattle.fast_records.specs.Keyed.{packedAt}

@@ -8,25 +8,17 @@ use native.Mathlib.Numerals.{add-one}
 use native.Mathlib.Decide.{ℕ-discrete, decLt}
 use native.Mathlib.Omega.{arith}
 use Rattle.image.specs.Bytes.{be16At, be32At, be64At}
-use Rattle.extent_keys.proofs.Order.{Bytes}
-use Rattle.fast_records.proofs.Numbers.{two-words, word-small}
-
-digits : (h l k m : ℕ) → l < 65536 → m < 65536 → h * 65536 + l ≡ k * 65536 + m → (h ≡ k) × (l ≡ m)
-digits h l k m a b e = let x : h ≡ k = omega arith in (x, omega arith)
+use Rattle.image.proofs.Words.{Bytes, word-small, two-words, two-same, four-same}
 
 -- two words as one number
 pub two-right : (img : List ℕ) → Bytes img → (at h l : ℕ) → l < 65536 → be32At img at ≡ h * 65536 + l → (be16At img at ≡ h) × (be16At img (at + 2) ≡ l)
-two-right img b at h l s e = digits (be16At img at) (be16At img (at + 2)) h l (word-small img b (at + 2)) s (two-words img at ∙ e)
+two-right img b at h l s e = two-same (be16At img at) (be16At img (at + 2)) h l (word-small img b (at + 2)) s (two-words img at ∙ e)
 
 -- numbers that rise by s from p, as the words that one number has
 module _ (a b c d p s : ℕ) (hb : b < 65536) (hc : c < 65536) (hd : d < 65536) (hp : p + 3 * s < 65536) where
   four-words : a * 281474976710656 + b * 4294967296 + c * 65536 + d ≡ p * 281479271743489 + s * 844433520132096 → (a ≡ p + 3 * s) × (b ≡ p + 2 * s) × (c ≡ p + s) × (d ≡ p)
   four-words e =
-      let f : ((a * 65536 + b) * 65536 + c) * 65536 + d ≡ (((p + 3 * s) * 65536 + (p + 2 * s)) * 65536 + (p + s)) * 65536 + p = omega arith in
-      let x = digits ((a * 65536 + b) * 65536 + c) d (((p + 3 * s) * 65536 + (p + 2 * s)) * 65536 + (p + s)) p hd (omega (arith, hp)) f in
-      let y = digits (a * 65536 + b) c ((p + 3 * s) * 65536 + (p + 2 * s)) (p + s) hc (omega (arith, hp)) (x .0) in
-      let z = digits a b (p + 3 * s) (p + 2 * s) hb (omega (arith, hp)) (y .0) in
-      (z .0, z .1, y .1, x .1)
+      four-same a b c d (p + 3 * s) (p + 2 * s) (p + s) p hb hc hd (omega (arith, hp)) (omega (arith, hp)) (omega (arith, hp)) (omega (arith, e))
 
 times-next : (i s : ℕ) → (i + 1) * s ≡ i * s + s
 times-next i s = let e = suc-mul i s in rw (add-one i) (omega arith)

@@ -10,7 +10,7 @@ use lib.Bits.{bitOr, or-add-and, and-le-l, and-le-r, or-mod, or-shr}
 use lib.ListN.{getD}
 use Rattle.image.specs.Bytes.{be16At, be32At, be64At}
 use Rattle.extent_keys.specs.Key.{Lawful, hfsKeyAt, rank, packed}
-use Rattle.extent_keys.proofs.Order.{Bytes}
+use Rattle.image.proofs.Words.{Bytes, word-small, two-words}
 use Rattle.fast_records.specs.Keyed.{turn, packedAt, Clean, LawfulKey, LawAt}
 
 -- four words as one number, in parts
@@ -32,16 +32,7 @@ module _ (w x y z : ℕ) (p : x < 65536) (q : y < 65536) (r : z < 65536) where
   turn-words = rw (high, rest, middle, low)
 
 module _ (img : List ℕ) where
-  -- four bytes are two words
-  pub two-words : (at : ℕ) → be16At img at * 65536 + be16At img (at + 2) ≡ be32At img at
-  unfolding be16At be32At
-  two-words at = let e : at + 2 + 1 ≡ at + 3 = omega arith in rw e (omega arith)
-
   module _ (b : Bytes img) where
-    pub word-small : (at : ℕ) → be16At img at < 65536
-    unfolding be16At
-    word-small at = let x = b at in let y = b (at + 1) in omega arith
-
     first : (at : ℕ) → be16At img at / 256 ≡ getD img at 0
     unfolding be16At
     first at = let y = b (at + 1) in omega arith
@@ -54,9 +45,9 @@ module _ (img : List ℕ) where
     pub turn-key : (at : ℕ) → turn (be64At img at) ≡ packedAt img at * 256 + getD img at 0
     unfolding be64At packed
     turn-key at =
-        turn-words (be16At img at) (be16At img (at + 2)) (be16At img (at + 4)) (be16At img (at + 6)) (word-small (at + 2)) (word-small (at + 4)) (word-small (at + 6))
+        turn-words (be16At img at) (be16At img (at + 2)) (be16At img (at + 4)) (be16At img (at + 6)) (word-small img b (at + 2)) (word-small img b (at + 4)) (word-small img b (at + 6))
         ∙ (let e : at + 2 + 2 ≡ at + 4 = omega arith in
-        let f = rw e at (two-words (at + 2)) in
+        let f = rw e at (two-words img (at + 2)) in
         rw (f, first at, second at) (omega arith))
 
     -- the order of packed numbers is that of keys
@@ -66,8 +57,8 @@ module _ (img : List ℕ) where
       where
         go : Dec (be32At img (a + 2) * 256 + getD img (a + 1) 0 < be32At img (c + 2) * 256 + getD img (c + 1) 0)
             → (be32At img (a + 2) * 256 + getD img (a + 1) 0) * 4294967296 + be16At img (a + 6) < (be32At img (c + 2) * 256 + getD img (c + 1) 0) * 4294967296 + be16At img (c + 6)
-        go (yes l) = let s = word-small (a + 6) in omega arith
-        go (no n) = let s = word-small (a + 6) in let t = word-small (c + 6) in omega arith
+        go (yes l) = let s = word-small img b (a + 6) in omega arith
+        go (no n) = let s = word-small img b (a + 6) in let t = word-small img b (c + 6) in omega arith
 
     -- keys of the same eight bytes are the same
     pub raw-same : (a c : ℕ) → be64At img a ≡ be64At img c → rank (hfsKeyAt img a) ≡ rank (hfsKeyAt img c)
@@ -77,8 +68,8 @@ module _ (img : List ℕ) where
         let g = turn-key c in
         let x = b a in
         let y = b c in
-        let s = word-small (a + 6) in
-        let t = word-small (c + 6) in
+        let s = word-small img b (a + 6) in
+        let t = word-small img b (c + 6) in
         let u = b (a + 1) in
         let v = b (c + 1) in
         let h = rw e at f in
@@ -93,7 +84,7 @@ module _ (img : List ℕ) where
         long = let x = b at in omega arith
 
         forked : k / 16777216 % 256 ≡ getD img (at + 1) 0
-        forked = let x = b at in let y = b (at + 1) in let z = word-small (at + 6) in let s = parted in rw (e, s) (omega arith)
+        forked = let x = b at in let y = b (at + 1) in let z = word-small img b (at + 6) in let s = parted in rw (e, s) (omega arith)
           where
             parted : (be32At img (at + 2) * 16777216 + getD img (at + 1) 0 * 65536 + be16At img (at + 6)) * 256 + getD img at 0
                 ≡ (be32At img (at + 2) * 256 + getD img (at + 1) 0) * 16777216 + (be16At img (at + 6) * 256 + getD img at 0)

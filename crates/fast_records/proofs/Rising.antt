@@ -10,7 +10,7 @@ use native.Mathlib.Omega.{arith}
 use lib.ListN.{getD}
 use borrow.Author.Count.{below-more}
 use Rattle.image.specs.Bytes.{be64At}
-use Rattle.extent_keys.proofs.Order.{Bytes}
+use Rattle.image.proofs.Words.{Bytes}
 use Rattle.fast_records.specs.Keyed.{turn, packedAt, Clean, LawfulKey, LawAt, Rises}
 use Rattle.fast_records.proofs.Numbers.{turn-key, law-of}
 

@@ -5,7 +5,8 @@ use mathlib.Core.List.{List}
 use Prim.Native.Nat.{ℕ, _+_, _*_, _≤_, _<_}
 use native.Mathlib.Decide.{ℕ-discrete}
 use native.Mathlib.Omega.{arith}
-use lib.ListN.{getD, length}
+use lib.ListN.{length}
+use Rattle.image.proofs.Words.{Bytes}
 use Rattle.image.specs.Bytes.{be16At}
 use Rattle.btree.specs.Header.{countOf}
 use Rattle.frame.specs.declared.form.Form.{Form}
@@ -18,10 +19,6 @@ use Rattle.catalog_nodes.specs.Node.{wordAt, offsetWord, typeAt, sizeOfType}
 use Rattle.catalog_nodes.specs.Node as node
 use Rattle.catalog_nodes.proofs.Walked.{data-inside, words-once}
 use Rattle.formats.specs.Format.{recordOffset, recordAt, dataAt, dataSizeAt, Records}
-
--- every byte of the image is one
-abbrev pub Bytes : List ℕ → Type 0
-Bytes img = (i : ℕ) → getD img i 0 < 256
 
 module _ (form : Form) (img : List ℕ) where
   pub offset-extents : (n i : ℕ) → form .tree ≡ 0 → recordOffset form img n i ≡ startIn form (kindOf form img n) i

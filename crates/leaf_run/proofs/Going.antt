@@ -14,7 +14,7 @@ use Rattle.image.specs.Bytes.{be32At, be64At}
 use Rattle.image.specs.Set.{withBit}
 use Rattle.btree.specs.Lists.{span}
 use Rattle.btree.specs.Header.{depthOf, countOf, viewOf}
-use Rattle.btree.specs.Walk.{fine}
+use Rattle.btree.specs.Walk.{fine, kid}
 use Rattle.btree.proofs.Left.{one-more}
 use Rattle.frame.specs.declared.form.Form.{Form}
 use Rattle.frame.specs.Form.{hfs, layoutOf}
@@ -30,7 +30,7 @@ use Rattle.step.proofs.Lands.{step-keeps}
 use Rattle.step.proofs.Links.{first-kept}
 use Rattle.step.proofs.Room.{small-kept, nodes-fit, records-most}
 use Rattle.leaf_run.specs.declared.run.Run.{Run}
-use Rattle.leaf_run.specs.Run.{ranOf, Addable, kidOf, Ran, RunReady, Begun, CanRun, Runnable, RanFor}
+use Rattle.leaf_run.specs.Run.{ranOf, Addable, Ran, RunReady, Begun, CanRun, Runnable, RanFor}
 use Rattle.leaf_run.proofs.Taken.{Turn, entryAt, turn-fine, is-child}
 
 abbrev pub runOf : ℕ → ℕ → ℕ → Run
@@ -61,8 +61,8 @@ kept-ran w d k p s n c f =
 
 -- record j of the node n, on level d, is next
 pub record Going (img bits₀ bits : List ℕ) (n i c high j : ℕ) (w : Walk) (d : ℕ) (r : Run) : Type 0 where
-  pub is : steps (view hfs img) (state bits₀ w) (span i (c - i) (kidOf (view hfs img) 0 d (bound hfs img high) n))
-      ≡ steps (view hfs img) (state bits (ranOf w (d + 1) r)) (span j (c - j) (kidOf (view hfs img) 0 d (bound hfs img high) n))
+  pub is : steps (view hfs img) (state bits₀ w) (span i (c - i) (kid (view hfs img) 0 d (bound hfs img high) n))
+      ≡ steps (view hfs img) (state bits (ranOf w (d + 1) r)) (span j (c - j) (kid (view hfs img) 0 d (bound hfs img high) n))
   pub small : Small (state bits (ranOf w (d + 1) r))
 
 module _ (img bits₀ : List ℕ) (before n i c high : ℕ) (w : Walk) (d : ℕ) (g : Begun bits₀ w (d + 1) before) where
@@ -95,7 +95,7 @@ module _ (img bits₀ : List ℕ) (before n i c high : ℕ) (w : Walk) (d : ℕ)
     unfolding steps
     going-on =
         let v = view hfs img in
-        let f = kidOf v 0 d (bound hfs img high) n in
+        let f = kid v 0 d (bound hfs img high) n in
         let x = ranOf w (d + 1) (runOf k p s) in
         record {
           is =

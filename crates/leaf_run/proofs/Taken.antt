@@ -16,7 +16,7 @@ use Rattle.btree.proofs.First.{no-fault}
 use Rattle.frame.specs.Form.{hfs, keySize, layoutOf}
 use Rattle.frame.specs.Kinds.{indexKind, kindOn, kindOf}
 use Rattle.extent_nodes.specs.Records.{recordSize}
-use Rattle.extent_keys.proofs.Order.{Bytes}
+use Rattle.image.proofs.Words.{Bytes}
 use Rattle.formats.specs.Format.{rankAt, recordAt, view}
 use Rattle.formats.proofs.Starts.{start-extents}
 use Rattle.order.specs.Bound.{bound}

@@ -2,15 +2,12 @@
 -- Assumes nothing.
 use mathlib.Core.Path.{_≡_}
 use mathlib.Core.Bool.{true}
-use mathlib.Core.Option.{Option, some}
 use mathlib.Core.List.{List}
-use Prim.Native.Nat.{ℕ, suc, _+_, _-_, _<_, _≤_}
+use Prim.Native.Nat.{ℕ, _+_, _-_, _<_, _≤_}
 use lib.ListN.{length, set}
-use Rattle.btree.specs.Places.{childPlace}
 use Rattle.btree.specs.Lists.{span}
 use Rattle.btree.specs.Header.{totalOf, depthOf, forwardOf, countOf}
-use Rattle.btree.specs.Tree.{View}
-use Rattle.btree.specs.Walk.{Entry, Under, above, entries}
+use Rattle.btree.specs.Walk.{Under, kid}
 use Rattle.frame.specs.declared.form.Form.{Form}
 use Rattle.frame.specs.Form.{hfs, layoutOf}
 use Rattle.frame.specs.Inside.{NodeIn}
@@ -20,11 +17,10 @@ use Rattle.order.specs.Bound.{bound}
 use Rattle.fast_records.specs.Keyed.{packedAt}
 use Rattle.fast_nodes.specs.Passes.{LeafPasses}
 use Rattle.step.specs.declared.state.Walk.{Walk}
-use Rattle.step.specs.State.{state, freshIn, lastAt}
+use Rattle.step.specs.State.{state, freshIn, lastAt, steps}
 use Rattle.step.specs.Room.{Small}
 use Rattle.step.specs.Ready.{Walkable}
 use Rattle.leaf_run.specs.declared.run.Run.{Run}
-use Rattle.step.specs.State.{steps}
 
 -- a walk after a run on level d
 unfoldable pub ranOf : Walk → ℕ → Run → Walk
@@ -44,15 +40,11 @@ pub record Addable (w : Walk) (d : ℕ) (r : Run) : Type 0 where
   pub records : w .records + r .records < 4294967296
   pub nodes : w .nodes + r .count < 4294967296
 
--- the entries below record i of the node n, which is on level d, with h levels below the record's child
-abbrev pub kidOf : View → ℕ → ℕ → Option ℕ → ℕ → ℕ → List Entry
-kidOf v h d hi n i = entries v h (suc d) (childPlace v n i) (some (v .key n i)) (above v n i hi) (v .child n i)
-
 -- the entries from record i on, of c, come to what those after the run come to from where it ended
 pub record Ran (form : Form) (img bits after : List ℕ) (w : Walk) (h d n i c high : ℕ) (r : Run) : Type 0 where
   pub upto : i + r .count ≤ c
-  pub is : steps (view form img) (state bits w) (span i (c - i) (kidOf (view form img) h d (bound form img high) n))
-      ≡ steps (view form img) (state after (ranOf w (d + 1) r)) (span (i + r .count) (c - (i + r .count)) (kidOf (view form img) h d (bound form img high) n))
+  pub is : steps (view form img) (state bits w) (span i (c - i) (kid (view form img) h d (bound form img high) n))
+      ≡ steps (view form img) (state after (ranOf w (d + 1) r)) (span (i + r .count) (c - (i + r .count)) (kid (view form img) h d (bound form img high) n))
   pub small : Small (state after (ranOf w (d + 1) r))
 
 -- what is asked at record i of c of a node on level d, with h levels below it

@@ -10,32 +10,14 @@ use lib.ListN.{length, getD, drop}
 use Rattle.image.specs.Bit.{bitOf}
 use Rattle.image.specs.Bytes.{be16At, be64At}
 use Rattle.image.proofs.Laws.{be16-beyond}
+use Rattle.image.proofs.Words.{Bytes, word-small, four-same}
 use Rattle.btree.specs.Tests.{lowestWrong}
 use Rattle.map.proofs.Bits.{byte-more, same-byte}
-
-abbrev pub Bytes : List ℕ → Type 0
-Bytes bs = (i : ℕ) → getD bs i 0 < 256
 
 pub eight-beyond : (bs : List ℕ) (at : ℕ) → length bs ≤ at → be64At bs at ≡ 0
 unfolding be64At
 eight-beyond bs at h =
     rw (be16-beyond bs at h, be16-beyond bs (at + 2) (omega arith), be16-beyond bs (at + 4) (omega arith), be16-beyond bs (at + 6) (omega arith))
-
-digits : (h l k m : ℕ) → l < 65536 → m < 65536 → h * 65536 + l ≡ k * 65536 + m → (h ≡ k) × (l ≡ m)
-digits h l k m a b e = let x : h ≡ k = omega arith in (x, omega arith)
-
-module _ (a b c d p q r s : ℕ) (hb : b < 65536) (hc : c < 65536) (hd : d < 65536) (hq : q < 65536) (hr : r < 65536) (hs : s < 65536) where
-  four-words : a * 281474976710656 + b * 4294967296 + c * 65536 + d ≡ p * 281474976710656 + q * 4294967296 + r * 65536 + s → (a ≡ p) × (b ≡ q) × (c ≡ r) × (d ≡ s)
-  four-words e =
-      let f : ((a * 65536 + b) * 65536 + c) * 65536 + d ≡ ((p * 65536 + q) * 65536 + r) * 65536 + s = omega arith in
-      let x = digits ((a * 65536 + b) * 65536 + c) d ((p * 65536 + q) * 65536 + r) s hd hs f in
-      let y = digits (a * 65536 + b) c (p * 65536 + q) r hc hr (x .0) in
-      let z = digits a b p q hb hq (y .0) in
-      (z .0, z .1, y .1, x .1)
-
-word-small : (bs : List ℕ) → Bytes bs → (at : ℕ) → be16At bs at < 65536
-unfolding be16At
-word-small bs b at = let x = b at in let y = b (at + 1) in omega arith
 
 -- byte j of a map record whose first byte is byte `first` of the map
 module _ (xs ys : List ℕ) (first : ℕ) where
@@ -71,7 +53,7 @@ module _ (xs ys : List ℕ) (first : ℕ) where
 
         four : (be16At xs i ≡ be16At ys k) × (be16At xs (i + 2) ≡ be16At ys (k + 2)) × (be16At xs (i + 4) ≡ be16At ys (k + 4)) × (be16At xs (i + 6) ≡ be16At ys (k + 6))
         four =
-            four-words _ _ _ _ _ _ _ _
+            four-same _ _ _ _ _ _ _ _
             (word-small xs bx (i + 2)) (word-small xs bx (i + 4)) (word-small xs bx (i + 6))
             (word-small ys by (k + 2)) (word-small ys by (k + 4)) (word-small ys by (k + 6)) e
 

@@ -9,9 +9,8 @@ use native.Mathlib.Numerals.{add-one}
 use Rattle.btree.specs.declared.Place.{Place}
 use Rattle.btree.specs.Lists.{span}
 use Rattle.btree.specs.Tree.{View}
-use Rattle.btree.specs.Walk.{Entry, entries}
+use Rattle.btree.specs.Walk.{Entry, entries, kid}
 use Rattle.btree.proofs.Left.{one-more, none-left}
-use Rattle.btree.proofs.Entries.{kid}
 use Rattle.walk.specs.declared.visit.Pointer.{Pointer}
 use Rattle.frame.specs.declared.form.Form.{Form}
 use Rattle.formats.specs.Format.{view}

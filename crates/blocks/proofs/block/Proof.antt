@@ -8,7 +8,7 @@ use borrow.Author.Tests.{not-true, not-false}
 use Rattle.btree.specs.declared.Place.{Place}
 use Rattle.btree.proofs.Decisions.{said, unsaid}
 use Rattle.extent_keys.specs.Key.{Lawful, decLawful}
-use Rattle.extent_keys.proofs.Order.{Bytes}
+use Rattle.image.proofs.Words.{Bytes}
 use Rattle.catalog_keys.specs.Key.{Key, asked}
 use Rattle.catalog.specs.declared.answers.Answer.{Answer}
 use Rattle.catalog.specs.declared.answers.Answer.the-variants as answer

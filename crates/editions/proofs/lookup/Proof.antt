@@ -13,7 +13,8 @@ use Rattle.frame.specs.Form.{formOf, Listed, decListed, layoutOf}
 use Rattle.frame.proofs.Forms.{fair}
 use Rattle.formats.specs.Format.{formatOf}
 use Rattle.extent_keys.specs.Key.{asked}
-use Rattle.extent_keys.proofs.Order.{InRange, Bytes}
+use Rattle.image.proofs.Words.{Bytes}
+use Rattle.extent_keys.proofs.Order.{InRange}
 use Rattle.reader.proofs.Demands.{lookup-says, never-25}
 use Rattle.editions.specs.Asked.{ofKey}
 use Rattle.editions.proofs.Asked.{means, asked-lookup}

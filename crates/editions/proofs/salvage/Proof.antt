@@ -6,7 +6,8 @@ use Rattle.btree.proofs.Decisions.{said, unsaid}
 use Rattle.frame.specs.Form.{formOf, Listed, decListed}
 use Rattle.frame.proofs.Forms.{fair}
 use Rattle.extent_keys.specs.Key.{asked}
-use Rattle.extent_keys.proofs.Order.{InRange, Bytes}
+use Rattle.image.proofs.Words.{Bytes}
+use Rattle.extent_keys.proofs.Order.{InRange}
 use Rattle.reader.proofs.Matches.{salvage-says, salvage-never}
 use Rattle.editions.specs.Asked.{ofKey}
 use Rattle.editions.proofs.Asked.{means, asked-salvage}

@@ -13,7 +13,8 @@ use Rattle.frame.specs.Form.{hfs, layoutOf}
 use Rattle.frame.proofs.Forms.{hfs-listed, fair}
 use Rattle.extent_keys.specs.declared.key.Key.{Key}
 use Rattle.extent_keys.specs.Key.{Lawful, decLawful, asked}
-use Rattle.extent_keys.proofs.Order.{InRange, Bytes}
+use Rattle.image.proofs.Words.{Bytes}
+use Rattle.extent_keys.proofs.Order.{InRange}
 use Rattle.formats.specs.Asked.{askedRank}
 use Rattle.formats.specs.Format.{formatOf, view}
 use Rattle.search.specs.Descent.{Searchable}

@@ -5,7 +5,7 @@ use native.Mathlib.Omega.{arith}
 use Rattle.btree.proofs.Work.{left-untouched, leaves}
 use Rattle.frame.specs.Form.{hfs, layoutOf}
 use Rattle.formats.specs.Format.{formatOf}
-use Rattle.extent_keys.proofs.Order.{Bytes}
+use Rattle.image.proofs.Words.{Bytes}
 use Rattle.extents.proofs.Many.{placeable, refuses-row, refuses-image, fills}
 use borrow.Author.Needs.{needs}
 use Rattle.extents.proofs.lookup_many.Statement.{statement}

@@ -5,7 +5,7 @@ use Prim.Native.Nat.{_+_, _*_}
 use lib.ListN.{getD}
 use borrow.Author.Tests.{not-false}
 use Rattle.image.specs.Bytes.{be64At}
-use Rattle.extent_keys.proofs.Order.{Bytes}
+use Rattle.image.proofs.Words.{Bytes}
 use Rattle.fast_nodes.specs.Passes.{Recorded, LeafPasses}
 use Rattle.fast_nodes.proofs.Nodes.{leaf-size, leaf-passed, leaf-recorded}
 use borrow.Author.Needs.{needs}

@@ -2,7 +2,7 @@
 use native.Mathlib.Omega.{arith}
 use mathlib.Core.Path.{refl}
 use borrow.Author.Tests.{not-false}
-use Rattle.extent_keys.proofs.Order.{Bytes}
+use Rattle.image.proofs.Words.{Bytes}
 use Rattle.fast_records.proofs.Surely.{never}
 use Rattle.fast_nodes.proofs.Nodes.{leaf-size, whole-leaf}
 use borrow.Author.Needs.{needs}

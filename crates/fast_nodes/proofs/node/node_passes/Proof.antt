@@ -10,7 +10,7 @@ use Rattle.order.specs.Bound.{bound}
 use Rattle.fast_nodes.specs.Passes.{Recorded, Passes}
 use native.Mathlib.Omega.{arith}
 use borrow.Author.Tests.{not-false}
-use Rattle.extent_keys.proofs.Order.{Bytes}
+use Rattle.image.proofs.Words.{Bytes}
 use Rattle.fast_records.proofs.Surely.{never}
 use Rattle.fast_nodes.proofs.Nodes.{leaf-size, index-size, node-passes, on-leaf, on-index}
 use borrow.Author.Needs.{needs}

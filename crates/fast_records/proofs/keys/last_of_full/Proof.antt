@@ -4,7 +4,7 @@ use Prim.Native.Nat.{_+_, _-_, _*_, _≤_}
 use mathlib.Core.Path.{_≡_}
 use borrow.Author.Needs.{needs}
 use Rattle.image.specs.Bytes.{be64At}
-use Rattle.extent_keys.proofs.Order.{Bytes}
+use Rattle.image.proofs.Words.{Bytes}
 use Rattle.fast_records.proofs.Rising.{Climbs, key-at, climbs-one, climbs-more, climbs-rises}
 use Rattle.fast_records.proofs.keys.last_of_full.Statement.{statement}
 use Rattle.fast_records.proofs.keys.last_of_full.Tie as tie

@@ -2,7 +2,7 @@
 use native.Mathlib.Omega.{arith}
 use mathlib.Core.Path.{sym, _∙_}
 use borrow.Author.Tests.{eqb-true}
-use Rattle.extent_keys.proofs.Order.{Bytes}
+use Rattle.image.proofs.Words.{Bytes}
 use Rattle.fast_records.proofs.Fours.{four-right}
 use borrow.Author.Needs.{needs}
 use Rattle.fast_records.proofs.words.four_right.Statement.{statement}

@@ -5,7 +5,7 @@ use Prim.Native.Nat.{ℕ, _+_, _-_, _*_}
 use borrow.Author.Count.{below-more}
 use borrow.Author.Tests.{not-false, eqb-true}
 use Rattle.image.specs.Bytes.{be16At}
-use Rattle.extent_keys.proofs.Order.{Bytes}
+use Rattle.image.proofs.Words.{Bytes}
 use Rattle.fast_records.proofs.Surely.{never}
 use Rattle.fast_records.proofs.Fours.{two-right, words-more}
 use borrow.Author.Needs.{needs}

@@ -3,7 +3,7 @@ use mathlib.Core.Path.{_≡_, refl}
 use native.Mathlib.Decide.{ℕ-discrete}
 use native.Mathlib.Omega.{arith}
 use Rattle.btree.specs.Walk.{Under}
-use Rattle.extent_keys.proofs.Order.{Bytes}
+use Rattle.image.proofs.Words.{Bytes}
 use Rattle.fast_nodes.proofs.Ranks.{below-rank}
 use Rattle.frame.specs.Form.{hfs}
 use Rattle.formats.specs.Format.{rankAt}

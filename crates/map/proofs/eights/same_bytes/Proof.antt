@@ -3,7 +3,8 @@ use native.Mathlib.Omega.{arith}
 use mathlib.Core.Path.{sym, _∙_}
 use Prim.Native.Nat.{ℕ, _-_, _≤_, _<_}
 use lib.ListN.{length}
-use Rattle.map.proofs.SameBytes.{Bytes, SameAt, eight-more}
+use Rattle.image.proofs.Words.{Bytes}
+use Rattle.map.proofs.SameBytes.{SameAt, eight-more}
 use borrow.Author.Needs.{needs}
 use Rattle.map.proofs.eights.same_bytes.Statement.{statement}
 use Rattle.map.proofs.eights.same_bytes.Tie as tie

@@ -8,13 +8,12 @@ use Prim.Native.Nat.{ℕ, _+_, _-_, _<_, _≤_}
 use lib.ListN.{length}
 use Rattle.btree.specs.Lists.{span}
 use Rattle.btree.specs.Header.{viewOf}
-use Rattle.btree.specs.Walk.{entries}
+use Rattle.btree.specs.Walk.{entries, kid}
 use Rattle.formats.specs.Format.{view}
 use Rattle.order.specs.Bound.{bound}
 use Rattle.step.specs.State.{State, state, steps}
 use Rattle.step.specs.declared.state.Walk.{Walk}
 use Rattle.step.specs.Room.{Small}
-use Rattle.btree.proofs.Entries.{kid}
 use Rattle.leaf_run.specs.Run.{ranOf}
 use Rattle.leaf_run.proofs.Going.{ran-fits}
 use Rattle.walk.proofs.Steps.{steps-stuck, steps-leaf, steps-index, kids-end, kids-on}
