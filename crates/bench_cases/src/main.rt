@@ -1,4 +1,6 @@
 // Those of the paper's bench images that are run and not computed: each is built as the paper says, and checked.
+#![tactic(auto)]
+
 ghost use Rattle.std.specs.Prelude.{◌≤◌};
 
 use bench_images::tree::{put_empty_tree, put_index_tree, put_leaf_tree, put_map_loop};

@@ -1,4 +1,6 @@
 // What is written of block mapping: seven numbers, and the covering record's pairs.
+#![tactic(auto)]
+
 ghost use Rattle.std.specs.Prelude.{◌≡◌, ◌<◌};
 ghost use Rattle.replies.specs.Written.{all_bytes};
 ghost use Rattle.blocks.specs.Demands.{image_of};

@@ -1,5 +1,7 @@
 // From a block of a file to the block of the cartridge: a layer above the catalog and the extents overflow file of an HFS volume, which uses both by what they promise.
 // Any bytes are an image, and nobody has to have checked it first.
+#![tactic(auto)]
+
 ghost use Rattle.std.specs.Prelude.{◌≡◌, length};
 ghost use Rattle.catalog_keys.specs.Key.{asked};
 ghost use Rattle.catalog.specs.Reader.{Leaves};

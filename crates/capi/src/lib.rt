@@ -1,4 +1,6 @@
 // What C and Rust call. Every element of `out` and `data` is written, whatever the answer; what is left in `results`, `work` and `target`, the answer tells.
+#![tactic(auto)]
+
 ghost use Rattle.std.specs.Prelude.{◌≡◌, length};
 ghost use Rattle.btree.specs.Numbers.{lookup_reply, salvage_reply, reply_numbers, lookup_numbers};
 ghost use Rattle.frame.specs.Form.{form_of};

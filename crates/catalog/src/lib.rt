@@ -1,4 +1,6 @@
 // The reader of the catalog file of an HFS volume. Any bytes are an image, and nobody has to have checked it first.
+#![tactic(auto)]
+
 pub mod answers;
 
 ghost use Rattle.std.specs.Prelude.{◌≡◌, ◌<◌, length};

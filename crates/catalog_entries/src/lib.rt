@@ -1,4 +1,6 @@
 // The data of a leaf record: four kinds, told apart by type, with their fields. Finder info and names are handed out with the record's bytes.
+#![tactic(auto)]
+
 ghost use Rattle.std.specs.Prelude.{◌≡◌, ◌<◌};
 ghost use Rattle.catalog_entries.specs.Entry.{directory_at, fork_at, file_at, thread_at, entry_at};
 

@@ -1,2 +1,4 @@
 // The nodes of a catalog file.
+#![tactic(auto)]
+
 pub mod records;

@@ -1,4 +1,6 @@
 // What is written of a catalog's answer: its numbers, and the data of a record.
+#![tactic(auto)]
+
 ghost use Rattle.std.specs.Prelude.{◌≡◌};
 ghost use Rattle.catalog.specs.Answers.{plain_answer, plain, plain_seen};
 ghost use Rattle.catalog.specs.Reader.{found_part, seen_part};

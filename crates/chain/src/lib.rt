@@ -1,4 +1,6 @@
 // Test 3: the map chain.
+#![tactic(auto)]
+
 ghost use Rattle.std.specs.Prelude.{◌≡◌, ◌+◌, ◌*◌, ◌≤◌};
 ghost use Rattle.btree.specs.Places.{node_place};
 ghost use Rattle.btree.specs.Decide.{says};

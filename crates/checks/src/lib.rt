@@ -1,4 +1,6 @@
 // The whole check of an image of any form. The bitmap of the nodes met is in bytes that the caller lends.
+#![tactic(auto)]
+
 ghost use Rattle.std.specs.Prelude.{◌≡◌, length};
 ghost use Rattle.btree.specs.Work.{checked, CheckSays, Leaves};
 ghost use Rattle.frame.specs.Form.{layout_of, Fair};

@@ -1,4 +1,6 @@
 // The reader of the extents overflow files of HFS and HFS Plus, for an edition and a node size. Any bytes are an image, and nobody has to have checked it first.
+#![tactic(auto)]
+
 ghost use Rattle.std.specs.Prelude.{◌≡◌, length};
 ghost use Rattle.btree.specs.Numbers.{lookup_reply};
 ghost use Rattle.frame.specs.Form.{form_of};

@@ -1,4 +1,6 @@
 // The data of an extents record of HFS, three pairs of first block and block count: those of a leaf record of the extents overflow file, and the first ones of a fork in the catalog.
+#![tactic(auto)]
+
 pub mod pairs;
 
 ghost use Rattle.std.specs.Prelude.{◌≡◌, ◌<◌};

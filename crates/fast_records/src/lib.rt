@@ -1,4 +1,6 @@
 // The records of an HFS node in one pass, fast where they are right: an answer of false says nothing.
+#![tactic(auto)]
+
 ghost use Rattle.std.specs.Prelude.{◌≡◌, true, ◌+◌, ◌*◌, ◌<◌, ◌≤◌, length};
 ghost use Rattle.image.specs.Bytes.{be64_at};
 ghost use Rattle.fast_records.specs.Keyed.{Keyed};

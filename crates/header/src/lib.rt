@@ -1,4 +1,6 @@
 // Tests 1 and 2: the image's length and the header node.
+#![tactic(auto)]
+
 ghost use Rattle.std.specs.Prelude.{◌≡◌, ◌<◌};
 ghost use Rattle.btree.specs.Decide.{says};
 ghost use Rattle.btree.specs.Tests.{dec_descriptor, dec_no_tree, dec_lengths, dec_header_node};

@@ -1,4 +1,6 @@
 // The row of leaf records that a fresh tree is laid down from.
+#![tactic(auto)]
+
 ghost use Rattle.std.specs.Prelude.{◌≡◌, ◌*◌, length};
 ghost use Rattle.btree.specs.Decide.{says};
 ghost use Rattle.btree.specs.Tells.{Tells};

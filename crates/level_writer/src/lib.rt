@@ -1,4 +1,6 @@
 // The levels of a fresh tree, written into a lent target. Each function writes at an index and returns the next.
+#![tactic(auto)]
+
 ghost use Rattle.std.specs.Prelude.{◌≡◌, ◌-◌, ◌*◌, ◌≤◌, min, length};
 ghost use Rattle.put.specs.Put.{Puts};
 ghost use Rattle.btree.specs.Lists.{span};

@@ -1,4 +1,6 @@
 // The listing of each file of data/, one after the other.
+#![tactic(auto)]
+
 use printing::lines::print;
 
 fn case(path: &[u8]) {

@@ -1,4 +1,6 @@
 // The rows of a listing: the leaf records of an image in leaf order, and the fields of each. Any bytes are an image.
+#![tactic(auto)]
+
 ghost use Rattle.std.specs.Prelude.{◌≡◌, length};
 ghost use Rattle.btree.specs.Header.{leaf_records_of};
 ghost use Rattle.extents.specs.Reader.{Sound, leaf_list};

@@ -1,1 +1,2 @@
 // Rows of keys, and the results afterwards, proved: see specs/Table.antt and proofs/Table.antt.
+#![tactic(auto)]

@@ -1,4 +1,6 @@
 // Test 9, the map bits; test 10, the free count.
+#![tactic(auto)]
+
 ghost use Rattle.std.specs.Prelude.{◌≡◌, List, ℕ, ◌*◌, ◌≤◌, length};
 ghost use Rattle.image.specs.Bit.{bit_of};
 ghost use Rattle.btree.specs.Tests.{lowest_wrong, bit_test, map_tests};

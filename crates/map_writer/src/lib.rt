@@ -1,4 +1,6 @@
 // The header and the map nodes of a fresh tree, written into a lent target. Each function writes at an index and returns the next.
+#![tactic(auto)]
+
 ghost use Rattle.std.specs.Prelude.{◌≡◌, ◌+◌, ◌*◌, ◌≤◌, ◌<◌, length};
 ghost use Rattle.put.specs.Put.{Puts};
 ghost use Rattle.btree.specs.Lists.{span};

@@ -1,4 +1,6 @@
 // The nodes of a fresh tree, written into a lent target. Each function writes at an index and returns the next.
+#![tactic(auto)]
+
 ghost use Rattle.std.specs.Prelude.{◌≡◌, ◌+◌, ◌-◌, ◌*◌, ◌%◌, ◌≤◌, ◌<◌, length, take, drop};
 ghost use Rattle.std.proofs.Math.Decide.{dec_lt};
 ghost use Rattle.put.specs.Put.{Puts};

@@ -1,4 +1,6 @@
 // Prints the listing of an image, or of what can be read from a descriptor; and the verdict on an image that has a name.
+#![tactic(auto)]
+
 ghost use Rattle.std.specs.Prelude.{◌≡◌};
 ghost use Rattle.extents.specs.Reader.{verdict};
 

@@ -1,4 +1,6 @@
 // The reader of a tree file of any form. Any bytes are an image, and nobody has to have checked it first.
+#![tactic(auto)]
+
 ghost use Rattle.std.specs.Prelude.{◌≡◌, length};
 ghost use Rattle.btree.specs.Numbers.{lookup_reply};
 ghost use Rattle.btree.specs.Search.{refused};

@@ -1,4 +1,6 @@
 // What is written of an answer: its numbers, and the data of a record.
+#![tactic(auto)]
+
 ghost use Rattle.std.specs.Prelude.{◌≡◌, ◌<◌, ◌≤◌};
 ghost use Rattle.btree.specs.Walk.{fails};
 ghost use Rattle.btree.specs.Lists.{padded};

@@ -1,4 +1,6 @@
 // Salvage's scan: the first whole leaf that has a key, whether a tree leads to it or not.
+#![tactic(auto)]
+
 ghost use Rattle.std.specs.Prelude.{◌≡◌, ◌-◌, ◌*◌, ◌/◌, ◌<◌, ◌≤◌, length};
 ghost use Rattle.btree.specs.Hits.{hit_of};
 ghost use Rattle.frame.specs.Form.{Fair};

@@ -1,4 +1,6 @@
 // One step of the walk of a tree: tests 4 to 7 at a node, and what is kept of one that passes.
+#![tactic(auto)]
+
 ghost use Rattle.formats.specs.Format.{view};
 ghost use Rattle.step.specs.State.{state, step, entry};
 ghost use Rattle.step.specs.Ready.{Ready, Gives};

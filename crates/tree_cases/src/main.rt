@@ -1,4 +1,6 @@
 // Small trees with a fault: levels, pointer keys, child numbers, links and keys. Each is built, and checked.
+#![tactic(auto)]
+
 ghost use Rattle.std.specs.Prelude.{◌≤◌};
 
 use bench_images::put::{put8, put32};

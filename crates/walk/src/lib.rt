@@ -1,4 +1,6 @@
 // Tests 4 to 8: the walk of the tree, and the tests at its end.
+#![tactic(auto)]
+
 ghost use Rattle.walk.specs.Outcome.{Begins, Ends};
 
 use btree::Place;

@@ -1,4 +1,6 @@
 // The writer of extents overflow files of HFS volumes. Any bytes will do as a row, and any as a target; nobody has to have checked them first.
+#![tactic(auto)]
+
 ghost use Rattle.std.specs.Prelude.{◌≡◌};
 ghost use Rattle.writing.specs.Written.{write_answer, written};
 ghost use Rattle.writing.specs.Demands.{WriteSays};
