@@ -1,6 +1,6 @@
 -- W-207, in the order of its tests.
 -- Assumes nothing.
-use Rattle.std.proofs.Math.Logic.{Dec·and}
+use Rattle.std.proofs.Math.Logic.Dec
 use Rattle.std.specs.Prelude.{List, ℕ, length}
 use Rattle.std.proofs.Math.Decide.{dec_le}
 use Rattle.btree.specs.Places.{node_place, image_start}
@@ -21,7 +21,7 @@ pub record Asked (k : Key) (fork : ℕ) : Type 0 where
   pub short : IsShort k
 
 unfoldable pub dec_asked : (k : Key) (fork : ℕ) → Dec (Asked k fork)
-dec_asked k fork = map_dec (λ (a, b). record { lawful = a; short = b }) (λ q. (q.lawful, q.short)) (Dec·and (dec_lawful fork) (dec_le (length k.name) longest_name))
+dec_asked k fork = map_dec (λ (a, b). record { lawful = a; short = b }) (λ q. (q.lawful, q.short)) (Dec.and (dec_lawful fork) (dec_le (length k.name) longest_name))
 
 module _ (cat ext : List ℕ) (lent fork block : ℕ) where
   -- "an absent key is 12", with the place of the catalog's lookup

@@ -30,5 +30,6 @@ module _ {A : Type 0} {x : A} where
   back-rest (y ∷ met) rest m = back-rest met (y ∷ rest) (Memᴰ.tail m)
 
   pub back-met : (met rest : List A) → x ∈ met → x ∈ reverse_aux met rest
+  back-met [] rest m = elim m [ ]
   back-met (y ∷ met) rest (Memᴰ.head e) = back-rest met (y ∷ rest) (Memᴰ.head e)
   back-met (y ∷ met) rest (Memᴰ.tail m) = back-met met (y ∷ rest) m

@@ -1,6 +1,6 @@
 -- What of test 6 has to be tested at a node; the rest of it follows. No public promise mentions it.
 -- Assumes nothing.
-use Rattle.std.proofs.Math.Logic.{Dec·and}
+use Rattle.std.proofs.Math.Logic.Dec
 use Rattle.std.proofs.Math.Option.{Option}
 use Rattle.std.specs.Prelude.{ℕ, pred, ◌<◌}
 use Rattle.std.proofs.Math.Decide.{dec_lt}
@@ -16,7 +16,7 @@ module _ (v : View) where
   Rises hi n i = (0 < i → key n (pred i) < key n i) × Under (key n i) hi
 
   unfoldable pub dec_rises : (hi : Option ℕ) (n i : ℕ) → Dec (Rises hi n i)
-  dec_rises hi n i = Dec·and (dec_imp (dec_lt 0 i) (dec_lt (key n (pred i)) (key n i))) (dec_if_some (λ b. dec_lt (key n i) b) hi)
+  dec_rises hi n i = Dec.and (dec_imp (dec_lt 0 i) (dec_lt (key n (pred i)) (key n i))) (dec_if_some (λ b. dec_lt (key n i) b) hi)
 
   -- the first record of which that fails
   unfoldable pub first_fall : Option ℕ → ℕ → Option ℕ

@@ -1,7 +1,7 @@
 -- The nodes of a catalog file: where their records stand, and when they are right.
 -- Assumes nothing.
 use Rattle.std.specs.Prelude.{◌≡◌, List, [], ◌∷◌, ℕ, suc, ◌+◌, ◌-◌, ◌*◌, ◌%◌, ◌≤◌, ◌<◌, get_or}
-use Rattle.std.proofs.Math.Logic.{Dec·and}
+use Rattle.std.proofs.Math.Logic.Dec
 use Rattle.std.proofs.Math.Decide.{ℕ_discrete, dec_le}
 use Rattle.image.specs.Bytes.{be16_at}
 use Rattle.btree.specs.Decide.{cond, map_dec, dec_imp, dec_all}
@@ -51,10 +51,10 @@ module _ (img : List ℕ) where
       map_dec
       (λ ((a, b), c). record { name_length = a; key_length = b; is_type = c })
       (λ r. ((r.name_length, r.key_length), r.is_type))
-      (Dec·and (Dec·and
+      (Dec.and (Dec.and
       (dec_le (get_or img (at + 6) 0) 31)
       (ℕ_discrete (get_or img at 0) (key_length_of kind (get_or img (at + 6) 0))))
-      (dec_imp (ℕ_discrete kind leaf_kind) (Dec·and (dec_le 1 (type_at at)) (dec_le (type_at at) 4))))
+      (dec_imp (ℕ_discrete kind leaf_kind) (Dec.and (dec_le 1 (type_at at)) (dec_le (type_at at) 4))))
 
 module _ (form : Form) (img : List ℕ) where
   -- "Record offsets are words from the end of the node backwards"
@@ -81,7 +81,7 @@ module _ (form : Form) (img : List ℕ) where
       map_dec
       (λ ((((a, b), c), d), e). record { few = a; first = b; next = c; right = d; room = e })
       (λ r. ((((r.few, r.first), r.next), r.right), r.room))
-      (Dec·and (Dec·and (Dec·and (Dec·and
+      (Dec.and (Dec.and (Dec.and (Dec.and
       (dec_le (count_of (layout_of form) img n) (max_records kind))
       (ℕ_discrete (word_at n 0) (n * form.size + 14)))
       (dec_all (λ i. ℕ_discrete (word_at n (suc i)) (record_end img kind (word_at n i))) (count_of (layout_of form) img n)))

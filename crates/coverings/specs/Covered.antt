@@ -1,7 +1,7 @@
 -- W-207: the record that covers a block of a file, and what is answered by it. No definition looks into a tree: both are asked by their own calls.
 -- Assumes nothing.
 use Rattle.std.specs.Prelude.{◌≡◌, List, ℕ, ◌+◌, ◌-◌, ◌≤◌, ◌<◌}
-use Rattle.std.proofs.Math.Logic.{Dec·and}
+use Rattle.std.proofs.Math.Logic.Dec
 use Rattle.std.proofs.Math.Decide.{ℕ_discrete, dec_lt, dec_le}
 use Rattle.btree.specs.declared.Place.{Place}
 use Rattle.btree.specs.declared.Verdict.{Verdict}
@@ -44,7 +44,7 @@ pub record Covers (e : ExtentRecord) (file fork block : ℕ) : Type 0 where
 unfoldable pub dec_covers : (e : ExtentRecord) (file fork block : ℕ) → Dec (Covers e file fork block)
 dec_covers e file fork block =
     map_dec (λ (((a, b), c), d). record { same_file = a; same_fork = b; from = c; past = d }) (λ q. (((q.same_file, q.same_fork), q.from), q.past))
-    (Dec·and (Dec·and (Dec·and (ℕ_discrete e.file file) (ℕ_discrete e.fork fork)) (dec_le e.start block)) (dec_lt block (e.start + block_count e.extents)))
+    (Dec.and (Dec.and (Dec.and (ℕ_discrete e.file file) (ℕ_discrete e.fork fork)) (dec_le e.start block)) (dec_lt block (e.start + block_count e.extents)))
 
 -- a covering record: where it starts, and where its 12 bytes do; in the catalog those of the fork
 abbrev pub first_covering : List ℕ → ℕ → Place → Covering

@@ -1,7 +1,7 @@
 -- The key of an extents record, its order, and its packed number.
 -- Assumes nothing.
 use Rattle.std.specs.Prelude.{◌≡◌, ◌⊎◌, List, ℕ, ◌+◌, ◌*◌, ◌/◌, ◌%◌, ◌<◌, ℤ, pos, get_or}
-use Rattle.std.proofs.Math.Logic.{Dec·and}
+use Rattle.std.proofs.Math.Logic.Dec
 use Rattle.std.proofs.Math.Decide.{ℕ_discrete, dec_lt}
 use Rattle.image.specs.Bytes.{be16_at, be32_at}
 use Rattle.btree.specs.Decide.{dec_or}
@@ -66,4 +66,4 @@ abbrev pub IsKey : ℕ → Type 0
 IsKey number = (number < key_limit) × Lawful (unpacked number).fork
 
 unfoldable pub dec_key : (number : ℕ) → Dec (IsKey number)
-dec_key number = Dec·and (dec_lt number key_limit) (dec_lawful (unpacked number).fork)
+dec_key number = Dec.and (dec_lt number key_limit) (dec_lawful (unpacked number).fork)

@@ -1,7 +1,7 @@
 -- The records of a node of an extents overflow file: their sizes, where they start, and when they are right.
 -- Assumes nothing.
 use Rattle.std.specs.Prelude.{◌≡◌, List, ℕ, suc, ◌+◌, ◌-◌, ◌*◌, ◌≤◌, ◌<◌, get_or}
-use Rattle.std.proofs.Math.Logic.{Dec·and}
+use Rattle.std.proofs.Math.Logic.Dec
 use Rattle.std.proofs.Math.Decide.{ℕ_discrete, dec_le}
 use Rattle.image.specs.Bytes.{be16_at}
 use Rattle.btree.specs.Decide.{cond, map_dec, dec_all}
@@ -55,14 +55,14 @@ module _ (form : Form) where
     unfoldable pub dec_key_law : (at : ℕ) → Dec (KeyLaw at)
     dec_key_law at =
         map_dec (λ (a, b). record { length = a; fork = b }) (λ l. (l.length, l.fork))
-        (Dec·and (ℕ_discrete (length_at at) (key_length form)) (dec_lawful (key_at form img at).fork))
+        (Dec.and (ℕ_discrete (length_at at) (key_length form)) (dec_lawful (key_at form img at).fork))
 
     unfoldable pub dec_extent_records : (kind n : ℕ) → Dec (ExtentRecords kind n)
     dec_extent_records kind n =
         map_dec
         (λ ((a, b), c). record { few = a; offsets = b; keys = c })
         (λ r. ((r.few, r.offsets), r.keys))
-        (Dec·and (Dec·and
+        (Dec.and (Dec.and
         (dec_holds kind (count_of (layout_of form) img n))
         (dec_all (λ i. ℕ_discrete (be16_at img (n * form.size + (form.size - 2 - 2 * i))) (start_in kind i)) (suc (count_of (layout_of form) img n))))
         (dec_all (λ i. dec_key_law (start_at kind n i)) (count_of (layout_of form) img n)))

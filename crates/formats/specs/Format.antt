@@ -1,7 +1,7 @@
 -- The format of a tree file, of either tree: its keys, its nodes and what they say.
 -- Assumes nothing.
 use Rattle.std.specs.Prelude.{◌≡◌, List, ℕ, ◌+◌, ◌*◌, ◌≤◌, ◌<◌}
-use Rattle.std.proofs.Math.Logic.{Dec·and}
+use Rattle.std.proofs.Math.Logic.Dec
 use Rattle.std.proofs.Math.Decide.{ℕ_discrete, dec_le, dec_lt}
 use Rattle.image.specs.Bytes.{be16_at}
 use Rattle.btree.specs.Decide.{map_dec, dec_imp}
@@ -51,7 +51,7 @@ module _ (form : Form) where
         map_dec
         (λ ((((a, b), c), d), e). record { is_kind = a; reserved = b; some = c; extents = d; catalog = e })
         (λ r. ((((r.is_kind, r.reserved), r.some), r.extents), r.catalog))
-        (Dec·and (Dec·and (Dec·and (Dec·and
+        (Dec.and (Dec.and (Dec.and (Dec.and
         (ℕ_discrete (kind_of form img n) kind)
         (ℕ_discrete (be16_at img (n * form.size + 12)) 0))
         (dec_le 1 (count_of (layout_of form) img n)))
@@ -61,7 +61,7 @@ module _ (form : Form) where
     unfoldable pub dec_node_on : (depth n d : ℕ) → Dec (NodeOn depth n d)
     dec_node_on depth n d =
         map_dec (λ (a, b). record { level = a; records = b }) (λ r. (r.level, r.records))
-        (Dec·and (ℕ_discrete (level_of form img n + d) depth) (dec_records (kind_on (level_of form img n)) n))
+        (Dec.and (ℕ_discrete (level_of form img n + d) depth) (dec_records (kind_on (level_of form img n)) n))
 
     -- where the data starts of a leaf record that starts at this byte of the image, and how many bytes it has
     abbrev pub data_at : ℕ → ℕ

@@ -1,7 +1,7 @@
 -- The form of a tree file: its edition, which tree it is and the size of its nodes; which there are, and the sizes that follow.
 -- Assumes nothing.
 use Rattle.std.specs.Prelude.{◌≡◌, ◌⊎◌, List, [], ◌∷◌, ℕ, ◌-◌, ◌≤◌}
-use Rattle.std.proofs.Math.Logic.{Dec·and}
+use Rattle.std.proofs.Math.Logic.Dec
 use Rattle.std.proofs.Math.Decide.{ℕ_discrete}
 use Rattle.btree.specs.Lists.{◌∈◌}
 use Rattle.btree.specs.Decide.{if_zero, dec_or, dec_mem}
@@ -39,8 +39,8 @@ Listed form = ((form.edition ≡ 0) × (form.size ≡ 512)) ⊎ ((form.edition �
 unfoldable pub dec_listed : (form : Form) → Dec (Listed form)
 dec_listed form =
     dec_or
-    (Dec·and (ℕ_discrete form.edition 0) (ℕ_discrete form.size 512))
-    (Dec·and (ℕ_discrete form.edition 1) (dec_mem form.size plus_sizes))
+    (Dec.and (ℕ_discrete form.edition 0) (ℕ_discrete form.size 512))
+    (Dec.and (ℕ_discrete form.edition 1) (dec_mem form.size plus_sizes))
 
 module _ (form : Form) where
   -- "key length is 7"; W-211: "10 in the header too"; W-204: "a catalog's header has key length 37"

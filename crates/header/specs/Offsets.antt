@@ -1,7 +1,7 @@
 -- The offset words at the end of the header node.
 -- Assumes nothing.
 use Rattle.std.specs.Prelude.{◌≡◌, List, ℕ, ◌+◌, ◌-◌}
-use Rattle.std.proofs.Math.Logic.{Dec·and}
+use Rattle.std.proofs.Math.Logic.Dec
 use Rattle.std.proofs.Math.Decide.{ℕ_discrete}
 use Rattle.image.specs.Bytes.{be16_at}
 use Rattle.btree.specs.Decide.{map_dec}
@@ -19,7 +19,7 @@ dec_offsets l img =
     map_dec
     (λ (((a, b), c), d). record { free_at = a; map_at = b; second_at = c; record_at = d })
     (λ s. (((s.free_at, s.map_at), s.second_at), s.record_at))
-    (Dec·and (Dec·and (Dec·and
+    (Dec.and (Dec.and (Dec.and
     (ℕ_discrete (be16_at img (l.node_size - 8)) (header_map_at + l.header_map))
     (ℕ_discrete (be16_at img (l.node_size - 6)) header_map_at))
     (ℕ_discrete (be16_at img (l.node_size - 4)) 120))

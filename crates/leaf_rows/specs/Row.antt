@@ -1,7 +1,7 @@
 -- W-209: "a lent row of 20-byte leaf records, strictly ascending".
 -- Assumes nothing.
 use Rattle.std.specs.Prelude.{◌≡◌, List, ℕ, suc, ◌-◌, ◌*◌, ◌%◌, ◌<◌, length, take, drop}
-use Rattle.std.proofs.Math.Logic.{Dec·and}
+use Rattle.std.proofs.Math.Logic.Dec
 use Rattle.std.proofs.Math.Decide.{ℕ_discrete, dec_lt}
 use Rattle.shape.specs.Shape.{records_in}
 use Rattle.btree.specs.Decide.{map_dec, dec_all}
@@ -26,14 +26,14 @@ pub record RowLaw (row : List ℕ) : Type 0 where
 unfoldable pub dec_keys_right : (row : List ℕ) (n : ℕ) → Dec (KeysRight row n)
 dec_keys_right row n =
     map_dec (λ (a, b). record { lawful = a; ascend = b }) (λ k. (k.lawful, k.ascend))
-    (Dec·and
+    (Dec.and
     (dec_all (λ q. dec_key_law hfs row (q * 20)) n)
     (dec_all (λ q. dec_lt (rank_at hfs row (q * 20)) (rank_at hfs row (suc q * 20))) (n - 1)))
 
 unfoldable pub dec_row_law : (row : List ℕ) → Dec (RowLaw row)
 dec_row_law row =
     map_dec (λ (a, b). record { whole = a; keys = b }) (λ l. (l.whole, l.keys))
-    (Dec·and (ℕ_discrete (length row % 20) 0) (dec_keys_right row (records_in row)))
+    (Dec.and (ℕ_discrete (length row % 20) 0) (dec_keys_right row (records_in row)))
 
 -- the 20 bytes of a leaf record of an image
 abbrev pub bytes_of : List ℕ → Rec → List ℕ

@@ -1,6 +1,6 @@
 -- When a leaf is whole by itself, whether a tree leads to it or not.
 -- Assumes nothing.
-use Rattle.std.proofs.Math.Logic.{Dec·and}
+use Rattle.std.proofs.Math.Logic.Dec
 use Rattle.std.proofs.Math.Option.{Option}
 use Rattle.std.specs.Prelude.{List, ℕ, suc, ◌-◌, ◌<◌}
 use Rattle.std.proofs.Common.{arith}
@@ -31,5 +31,5 @@ dec_whole_leaf form img n =
     map_dec
     (λ (a, b). record { records = a; ascend = λ i u. b i (omega arith) u })
     (λ w. (w.records, λ i h. w.ascend i))
-    (Dec·and (dec_records form img leaf_kind n)
+    (Dec.and (dec_records form img leaf_kind n)
     (dec_all (λ i. dec_imp (dec_lt (suc i) ((view form img).count n)) (dec_lt ((view form img).key n i) ((view form img).key n (suc i)))) ((view form img).count n)))
