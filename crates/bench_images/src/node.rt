@@ -4,7 +4,7 @@ ghost use Rattle.std.specs.Prelude.{◌≤◌};
 use super::put::{put_words, put16, put32};
 
 // The numbers of a header that differ from image to image.
-#[derive(Drop)]
+#[derive(Clone, Copy)]
 pub struct Header {
     pub forward: u32,
     pub depth: u32,

@@ -8,7 +8,7 @@ use formats::records::place_at;
 use frame::form::of_catalog;
 
 // What a lookup says.
-#[derive(Drop)]
+#[derive(Clone, Copy)]
 pub enum Answer {
     // Where the record starts, and what it says.
     Found(Place, Entry),
@@ -18,7 +18,7 @@ pub enum Answer {
     Refused(u32, Place),
 }
 
-#[derive(Drop)]
+#[derive(Clone, Copy)]
 pub struct Lookup {
     pub answer: Answer,
     pub path: Path,
@@ -27,7 +27,7 @@ pub struct Lookup {
 }
 
 // What salvage says: seen and not seen are weaker words than found and absent, and a type of their own.
-#[derive(Drop)]
+#[derive(Clone, Copy)]
 pub enum Salvage {
     // Where the record starts, and what it says.
     Seen(Place, Entry),

@@ -8,7 +8,7 @@ use catalog_nodes::records::data_at;
 use extent_data::{ExtentData, extent_data_at};
 use image::bytes::{be16, be32, byte_at};
 
-#[derive(Drop)]
+#[derive(Clone, Copy)]
 pub struct Directory {
     pub flags: u32,
     pub valence: u32,
@@ -19,7 +19,7 @@ pub struct Directory {
 }
 
 // With its first three extents.
-#[derive(Drop)]
+#[derive(Clone, Copy)]
 pub struct Fork {
     pub first_block: u32,
     pub logical_length: u32,
@@ -27,7 +27,7 @@ pub struct Fork {
     pub extents: ExtentData,
 }
 
-#[derive(Drop)]
+#[derive(Clone, Copy)]
 pub struct File {
     pub flags: u32,
     pub file_type: u32,
@@ -41,13 +41,13 @@ pub struct File {
 }
 
 // From a directory's or a file's number to its parent and name.
-#[derive(Drop)]
+#[derive(Clone, Copy)]
 pub struct Thread {
     pub parent_id: u32,
     pub name_length: u32,
 }
 
-#[derive(Drop)]
+#[derive(Clone, Copy)]
 pub enum Entry {
     Directory(Directory),
     File(File),

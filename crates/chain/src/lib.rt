@@ -16,7 +16,7 @@ use image::bytes::be32;
 use image::visited::{clear, has, mark};
 
 // What the walk along the chain comes to: the first fault, and how many the header and the map nodes are.
-#[derive(Drop)]
+#[derive(Clone, Copy)]
 pub struct Chain {
     pub nodes: u32,
     pub number: u32,

@@ -5,21 +5,21 @@ ghost use Rattle.coverings.specs.Answers.{mapped_to};
 use btree::Place;
 
 // Which of the two images an answer concerns.
-#[derive(Drop)]
+#[derive(Clone, Copy)]
 pub enum Source {
     Catalog,
     Extents,
 }
 
 // The record that covers a block: the image that holds it, where it starts, and the byte of that image where its three pairs start.
-#[derive(Drop)]
+#[derive(Clone, Copy)]
 pub struct Covering {
     pub source: Source,
     pub place: Place,
     pub start: usize,
 }
 
-#[derive(Drop)]
+#[derive(Clone, Copy)]
 pub enum Mapping {
     // The covering record, and the volume block.
     Mapped(Covering, u32),

@@ -8,7 +8,7 @@ ghost use Rattle.extent_data.specs.Data.{extent_data_at};
 
 use image::bytes::be16;
 
-#[derive(Drop)]
+#[derive(Clone, Copy)]
 pub struct ExtentData {
     pub block1: u32,
     pub count1: u32,

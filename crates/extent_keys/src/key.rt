@@ -9,7 +9,7 @@ use image::bytes::{be16, be32, byte_at};
 use image::within::{be16_in, be32_in, byte_in};
 
 // What a record is found by.
-#[derive(Drop)]
+#[derive(Clone, Copy)]
 pub struct Key {
     pub file: u32,
     pub fork: u8,
@@ -17,7 +17,7 @@ pub struct Key {
 }
 
 // A key as it is compared: file number and fork byte as one number, then the start block.
-#[derive(Drop)]
+#[derive(Clone, Copy)]
 pub struct SortKey {
     pub owner: u64,
     pub start: u32,

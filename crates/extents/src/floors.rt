@@ -9,7 +9,7 @@ use frame::form::of_hfs;
 use image::bytes::{be16, be32, byte_at};
 
 // A leaf record: its key and its data.
-#[derive(Drop)]
+#[derive(Clone, Copy)]
 pub struct ExtentRecord {
     pub file: u32,
     pub fork: u32,
@@ -17,7 +17,7 @@ pub struct ExtentRecord {
     pub extents: ExtentData,
 }
 
-#[derive(Drop)]
+#[derive(Clone, Copy)]
 pub enum Floor {
     // Where the record starts, and what it says.
     At(Place, ExtentRecord),

@@ -4,7 +4,7 @@ ghost use Rattle.btree.specs.Decide.{says};
 ghost use Rattle.frame.specs.Form.{form_of, dec_listed, hfs, catalog, key_length, key_size, header_map_of, node_map_of, Fair};
 
 // Edition 0 is HFS, 1 HFS Plus; tree 0 is the extents overflow file, 1 the catalog; the size is in bytes.
-#[derive(Drop)]
+#[derive(Clone, Copy)]
 pub struct Form {
     pub edition: u32,
     pub tree: u32,

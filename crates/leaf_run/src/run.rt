@@ -9,7 +9,7 @@ use image::within::byte_in;
 use step::state::Walk;
 
 // So many nodes, the last of them, and their records.
-#[derive(Drop)]
+#[derive(Clone, Copy)]
 pub struct Run {
     pub count: u32,
     pub last: u32,

@@ -12,7 +12,7 @@ use frame::node::{count_of, forward_of};
 use image::bytes::{be16, be32, byte_at};
 
 // A row of the listing: the node and the record's number in it, or past the last row.
-#[derive(Drop)]
+#[derive(Clone, Copy)]
 pub enum Row {
     Record(u32, u32),
     NoRecord,

@@ -17,7 +17,7 @@ use image::bytes::{be32, byte_at};
 mod eights;
 
 // The lowest wrong bit. Maps of 65,536 nodes can have more bits than a u32 counts.
-#[derive(Drop)]
+#[derive(Clone, Copy)]
 pub enum Wrong {
     At(usize),
     Nowhere,

@@ -16,7 +16,7 @@ use frame::form::Form;
 use image::bytes::{be16, be32};
 
 // Where the search for a key ends: the node, and how many of its records are before the end; the nodes on the way there, and the keys compared.
-#[derive(Drop)]
+#[derive(Clone, Copy)]
 pub struct Reached {
     pub path: Path,
     pub compared: u32,

@@ -7,7 +7,7 @@ ghost use Rattle.step.specs.Room.{Keepable};
 use btree::{Place, Verdict};
 
 // What the tests at the end ask of the nodes met; which ones they are is in the lent bytes.
-#[derive(Drop)]
+#[derive(Clone, Copy)]
 pub struct Walk {
     // The last node met on each level, 0 for none.
     pub last: [u32; 8],

@@ -5,7 +5,7 @@ ghost use Rattle.laid.specs.Laid.{maps_for};
 ghost use Rattle.tree_writer.specs.Plan.{PlanOf};
 
 // How deep a tree is, which node is its root, and how many nodes are used with the header and the map nodes.
-#[derive(Drop)]
+#[derive(Clone, Copy)]
 pub struct Plan {
     pub depth: u32,
     pub root: usize,

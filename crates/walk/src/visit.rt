@@ -19,7 +19,7 @@ use step::stepped;
 
 // A record of an index node: the child and where its number stands, and the bytes after those at which the key stands that points at it and the one that
 // bounds the keys there.
-#[derive(Drop)]
+#[derive(Clone, Copy)]
 pub struct Pointer {
     pub child: u32,
     pub from: Place,
