@@ -1,0 +1,5 @@
+-- `node::forward_of` meets its contract. Assumes nothing.
+use Rattle.frame.proofs.node.forward_of.Goals as goal
+
+pub returns : goal.returns
+returns c = cc
