@@ -16,7 +16,7 @@ use Rattle.reader.proofs.Parts.{listed-inside}
 use Rattle.catalog_entries.specs.declared.Entry.{Entry}
 use Rattle.catalog.specs.declared.answers.Answer.TheVariants.{Found}
 use Rattle.catalog.specs.Asked.{of_key}
-use Rattle.catalog.specs.Answers.{answered, answered_as, seen_as, plain_answer}
+use Rattle.catalog.specs.Answers.{entry_of, answered, answered_as, seen_as, plain_answer}
 use Rattle.catalog.specs.Reader.{Sound, data_part}
 use Rattle.catalog.specs.Types.{FourTypes}
 use Rattle.catalog.specs.Demands.{SoundAnswer, LookupSays, SalvageSays}
@@ -41,7 +41,7 @@ module _ (img : List ℕ) (k : Key) where
         types : (p : Place) (e : Entry) → answered_as img l.answer ≡ Found p e → FourTypes img p e
         types p e w =
             let (x, m, _, o) = (a.found p).0 (sym (plain-answer img l.answer) ∙ ap plain_answer w) in
-            rw (found-entry img p e l.answer w) (rw o at (listed-type img s x m))
+            rw (found-entry img p e l.answer w) (subst (λ (q : Place). FourTypes img q (entry_of img q)) o (listed-type img s x m))
 
         inside : (p : Place) (e : Entry) → answered_as img l.answer ≡ Found p e → (data_part img p).at + (data_part img p).size ≤ length img
         inside p e w =
