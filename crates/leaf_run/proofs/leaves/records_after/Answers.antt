@@ -1,0 +1,45 @@
+-- `leaves::records_after` meets its contract. Assumes nothing.
+use mathlib.Core.Bool.{true}
+use mathlib.Core.Path.{◌≡◌, sym, ap, ◌∙◌}
+use Rattle.image.specs.Bytes.{be32_at}
+use Rattle.btree.specs.Header.{total_of, view_of}
+use Rattle.frame.specs.Form.{hfs}
+use Rattle.frame.proofs.Forms.{node-inside}
+use native.Mathlib.Omega.{arith}
+use Rattle.step.specs.State.{fresh_in}
+use Rattle.step.proofs.Fresh.{fresh-free}
+use Rattle.leaf_run.proofs.leaves.records_after.Goals as goal
+use Rattle.leaf_run.proofs.leaves.records_after.Goals.{Else-not-is_fresh}
+
+fresh : (c : Else-not-is_fresh) → let a = c.args in fresh_in (total_of a.image.now) a.bits.now a.node ≡ true
+fresh c = sym (c.is_fresh.ensures ∙ rw c.requires.2) ∙ c.if-not-is_fresh.false
+
+pub returns-then-not-is_fresh : goal.returns-then-not-is_fresh
+returns-then-not-is_fresh c = record {
+      surely = λ h. absurd (omega arith);
+      count = (λ h. absurd (omega arith), omega arith);
+    }
+
+pub returns-then-be32_in-node : goal.returns-then-be32_in-node
+returns-then-be32_in-node c = record {
+      surely = λ h. absurd (omega arith);
+      count = (λ h. absurd (omega arith), omega arith);
+    }
+
+pub records_of_passing-requires : goal.records_of_passing-requires
+unfolding view_of
+records_of_passing-requires c =
+    let a = c.args in
+    let f = fresh-free (total_of a.image.now) a.bits.now a.node (fresh (goal.at.records_of_passing-requires c).Else-not-is_fresh) in
+    record { fair = c.requires.0.fair; inside = node-inside hfs a.node _ _ f.range c.requires.0.whole }
+
+pub returns : goal.returns
+returns c =
+    let q = c.records_of_passing.ensures in record {
+      surely = λ z. record {
+        fresh = fresh (goal.at.returns c).Else-not-is_fresh;
+        passes = q.passes z;
+        leads = ap (be32_at _) (sym c.hfs_start.ensures.0) ∙ sym c.be32_in.ensures ∙ c.if-be32_in-node.false;
+      };
+      count = q.count;
+    }
