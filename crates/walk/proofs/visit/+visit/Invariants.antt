@@ -1,0 +1,26 @@
+-- The proof of the cycle of calls {visit}. Its measure is `below`. The loop's invariant: the steps along the entries left, from the bits and
+-- the state that are there, give what those along all entries below the node give from those that the loop began with. Assumes nothing.
+use mathlib.Core.Path.{◌≡◌}
+use Prim.Native.Nat.{◌-◌, ◌≤◌}
+use lib.ListN.{length}
+use Rattle.btree.specs.Lists.{span}
+use Rattle.btree.specs.Walk.{kid}
+use Rattle.formats.specs.Format.{view}
+use Rattle.order.specs.Bound.{bound}
+use Rattle.step.specs.State.{state, steps}
+use Rattle.step.specs.Room.{Small}
+use Rattle.walk.proofs.visit.+visit.Given as goal
+
+abbrev pub invariant-loop-i : goal.invariant-loop-i
+invariant-loop-i l =
+    (l.i ≤ l.c)
+    × (steps (view l.form l.image) (state l.bits l.x) (span l.i (l.c - l.i) (kid (view l.form l.image) (l.below - 1) l.level (bound l.form l.image l.high) l.node))
+    ≡ steps (view l.form l.image) (state l.initial.bits l.initial.x) (span 0 l.c (kid (view l.form l.image) (l.below - 1) l.level (bound l.form l.image l.high) l.node)))
+    × Small (state l.bits l.x)
+    × (length l.bits ≡ length l.initial.bits)
+
+abbrev pub decreases-loop-i : goal.decreases-loop-i
+decreases-loop-i l = l.c - l.i
+
+abbrev pub decreases-visit : goal.decreases-visit
+decreases-visit l = l.below
