@@ -27,18 +27,18 @@ abbrev key_of : Start → Key
 key_of s = asked s.args.parent s.args.name.now
 
 abbrev mapping : Start → Mapping
-mapping s = let a = s.args in block_of a.catalog.now a.extents.now (length a.catalog_work.now) (length a.extents_work.now) (key_of s) a.fork a.«file-block»
+mapping s = let a = s.args in block_of a.catalog.now a.extents.now (length a.catalog_work.now) (length a.extents_work.now) (key_of s) a.fork a.file_block
 
 bytes : (c : After-shared_slice_known-2-1) → Bytes c.args.extents.now
 bytes c i = omega (arith, c.shared_slice_known-2-1.given i)
 
 -- what equals the definition says what is said of it
 told : (c : After-shared_slice_known-2-1) (r : Mapping) → r ≡ mapping (goal.at.After-shared_slice_known-2-1 c).Start → let a = c.args in
-    BlockSays a.catalog.now a.extents.now (key_of (goal.at.After-shared_slice_known-2-1 c).Start) a.fork a.«file-block» (length a.catalog_work.now) (length a.extents_work.now) r
+    BlockSays a.catalog.now a.extents.now (key_of (goal.at.After-shared_slice_known-2-1 c).Start) a.fork a.file_block (length a.catalog_work.now) (length a.extents_work.now) r
 told c r e =
     let a = c.args in
-    subst (λ (x : Mapping). BlockSays a.catalog.now a.extents.now (key_of (goal.at.After-shared_slice_known-2-1 c).Start) a.fork a.«file-block» (length a.catalog_work.now) (length a.extents_work.now) x) (sym e)
-    (block-says a.catalog.now a.extents.now (bytes c) (key_of (goal.at.After-shared_slice_known-2-1 c).Start) a.fork a.«file-block» (omega arith) (omega arith) _ _)
+    subst (λ (x : Mapping). BlockSays a.catalog.now a.extents.now (key_of (goal.at.After-shared_slice_known-2-1 c).Start) a.fork a.file_block (length a.catalog_work.now) (length a.extents_work.now) x) (sym e)
+    (block-says a.catalog.now a.extents.now (bytes c) (key_of (goal.at.After-shared_slice_known-2-1 c).Start) a.fork a.file_block (omega arith) (omega arith) _ _)
 
 lawful : (c : Else-not-is_lawful) → Lawful c.args.fork
 lawful c = said (dec_lawful _) (sym c.is_lawful.ensures ∙ c.if-not-is_lawful.false)
@@ -52,11 +52,11 @@ looked c a e = sym (ap (λ (l : Lookup). l.answer) c.lookup-found.ensures.equal)
 
 -- and what follows from it: the answer, and what is left in the catalog's bytes
 answers : (c : After-lookup-found) (a : Answer) → c.lookup-found.result.answer ≡ a → let x = c.args in
-    by_answer x.catalog.now x.extents.now (length x.extents_work.now) x.fork x.«file-block» a ≡ mapping (goal.at.After-lookup-found c).Start
+    by_answer x.catalog.now x.extents.now (length x.extents_work.now) x.fork x.file_block a ≡ mapping (goal.at.After-lookup-found c).Start
 answers c a e =
     let x = c.args in
-    ap (by_answer x.catalog.now x.extents.now (length x.extents_work.now) x.fork x.«file-block») (sym (looked c a e))
-    ∙ block-lawful x.catalog.now x.extents.now _ _ (key_of (goal.at.After-lookup-found c).Start) x.fork x.«file-block» (lawful (goal.at.After-lookup-found c).Else-not-is_lawful)
+    ap (by_answer x.catalog.now x.extents.now (length x.extents_work.now) x.fork x.file_block) (sym (looked c a e))
+    ∙ block-lawful x.catalog.now x.extents.now _ _ (key_of (goal.at.After-lookup-found c).Start) x.fork x.file_block (lawful (goal.at.After-lookup-found c).Else-not-is_lawful)
 
 leaves : (c : After-lookup-found) → let x = c.args in
     Leaves x.catalog.now (catalog_number x.catalog.now (length x.catalog_work.now) (key_of (goal.at.After-lookup-found c).Start) x.fork) x.catalog_work.now c.lookup-found.new.work
@@ -73,7 +73,7 @@ pub returns-then-not-is_lawful : goal.returns-then-not-is_lawful
 returns-then-not-is_lawful c =
     let x = c.args in
     let n = unlawful (goal.at.returns-then-not-is_lawful c).Then-not-is_lawful in
-    let e = sym (block-unasked x.catalog.now x.extents.now (length x.catalog_work.now) (length x.extents_work.now) (key_of (goal.at.returns-then-not-is_lawful c).Start) x.fork x.«file-block» n) in
+    let e = sym (block-unasked x.catalog.now x.extents.now (length x.catalog_work.now) (length x.extents_work.now) (key_of (goal.at.returns-then-not-is_lawful c).Start) x.fork x.file_block n) in
     let z = number-unasked x.catalog.now (length x.catalog_work.now) (key_of (goal.at.returns-then-not-is_lawful c).Start) x.fork n in record {
       equal = e;
       says = told (goal.at.returns-then-not-is_lawful c).After-shared_slice_known-2-1 _ e;
@@ -86,13 +86,21 @@ in_entry-requires c = lawful (goal.at.in_entry-requires c).Else-not-is_lawful
 
 pub returns-in-Found : goal.returns-in-Found
 returns-in-Found c =
-    let p = let e = c.in_entry.ensures.equal ∙ answers (goal.at.returns-in-Found c).After-lookup-found _ c.in-Found.is in
-    (e, (told (goal.at.returns-in-Found c).After-shared_slice_known-2-1 _ e, (leaves (goal.at.returns-in-Found c).After-lookup-found, extents-left _ _ _ _ (number (goal.at.returns-in-Found c).After-lookup-found _ c.in-Found.is (λ m p w. let y : ◌≡◌ {A = ℕ} 0 1 = cc in omega arith)) c.in_entry.ensures.leaves))) in record { equal = p.0; says = p.1.0; catalog_leaves = p.1.1.0; extents_leaves = p.1.1.1 }
+    let e = c.in_entry.ensures.equal ∙ answers (goal.at.returns-in-Found c).After-lookup-found _ c.in-Found.is in record {
+      equal = e;
+      says = told (goal.at.returns-in-Found c).After-shared_slice_known-2-1 _ e;
+      catalog_leaves = leaves (goal.at.returns-in-Found c).After-lookup-found;
+      extents_leaves = extents-left _ _ _ _ (number (goal.at.returns-in-Found c).After-lookup-found _ c.in-Found.is (λ m p w. let y : ◌≡◌ {A = ℕ} 0 1 = cc in omega arith)) c.in_entry.ensures.leaves;
+    }
 
 pub returns-in-Absent : goal.returns-in-Absent
 returns-in-Absent c =
-    let p = let e = c.after_check.ensures.equal ∙ answers (goal.at.returns-in-Absent c).After-lookup-found _ c.in-Absent.is in
-    (e, (told (goal.at.returns-in-Absent c).After-shared_slice_known-2-1 _ e, (leaves (goal.at.returns-in-Absent c).After-lookup-found, extents-left _ _ _ _ (number (goal.at.returns-in-Absent c).After-lookup-found _ c.in-Absent.is (λ m p w. let y : ◌≡◌ {A = ℕ} 0 1 = cc in omega arith)) c.after_check.ensures.leaves))) in record { equal = p.0; says = p.1.0; catalog_leaves = p.1.1.0; extents_leaves = p.1.1.1 }
+    let e = c.after_check.ensures.equal ∙ answers (goal.at.returns-in-Absent c).After-lookup-found _ c.in-Absent.is in record {
+      equal = e;
+      says = told (goal.at.returns-in-Absent c).After-shared_slice_known-2-1 _ e;
+      catalog_leaves = leaves (goal.at.returns-in-Absent c).After-lookup-found;
+      extents_leaves = extents-left _ _ _ _ (number (goal.at.returns-in-Absent c).After-lookup-found _ c.in-Absent.is (λ m p w. let y : ◌≡◌ {A = ℕ} 0 1 = cc in omega arith)) c.after_check.ensures.leaves;
+    }
 
 pub returns-in-Refused : goal.returns-in-Refused
 returns-in-Refused c =

@@ -2,7 +2,7 @@
 use mathlib.Core.Path.{◌≡◌, sym, subst, ◌∙◌}
 use mathlib.Core.List.{List}
 use Prim.Native.Nat.{ℕ, ◌+◌, ◌≤◌}
-use denote.Ref.{MutBor}
+use Rattle.std.specs.Borrow.{Bor}
 use lib.ListN.{length}
 use Rattle.catalog_keys.specs.Key.{asked}
 use Rattle.coverings.specs.declared.answers.Source.{Source}
@@ -14,9 +14,9 @@ use Rattle.blocks.proofs.block_part.Goals as goal
 use Rattle.blocks.proofs.block_part.Goals.{After-block, In-Mapped}
 
 -- a part that fits what is answered fits the definition
-part : (c : After-block) (r : MutBor (List ℕ)) (m : Mapping) → c.block.result ≡ m → let a = c.args in
+part : (c : After-block) (r : Bor (List ℕ)) (m : Mapping) → c.block.result ≡ m → let a = c.args in
     PartOf a.catalog a.extents r m
-    → PartOf a.catalog a.extents r (block_of a.catalog.now a.extents.now (length a.catalog_work.now) (length a.extents_work.now) (asked a.parent a.name.now) a.fork a.«file-block»)
+    → PartOf a.catalog a.extents r (block_of a.catalog.now a.extents.now (length a.catalog_work.now) (length a.extents_work.now) (asked a.parent a.name.now) a.fork a.file_block)
 part c r m e p = let a = c.args in subst (λ (x : Mapping). PartOf a.catalog a.extents r x) (sym e ∙ c.block.ensures.equal) p
 
 -- the image that the covering record's source names has its bytes
@@ -35,19 +35,25 @@ part_at-requires-in-Extents c = inside (goal.at.part_at-requires-in-Extents c).I
 pub returns-in-Catalog : goal.returns-in-Catalog
 returns-in-Catalog c =
     let a = c.args in
-    let v = c.covering-1.given in (
-      part (goal.at.returns-in-Catalog c).After-block c.part_at.result _ v.1 (subst (λ (s : Source). PartIn a.catalog a.extents c.part_at.result s v.0.0.start) (sym c.in-Catalog.is) c.part_at.ensures),
-      c.block.ensures.catalog_leaves,
-    )
+    let v = c.in-Mapped in record {
+      part = part (goal.at.returns-in-Catalog c).After-block c.part_at.result _ v.is (subst (λ (s : Source). PartIn a.catalog a.extents c.part_at.result s v.covering.start) (sym c.in-Catalog.is) c.part_at.ensures);
+      catalog_leaves = c.block.ensures.catalog_leaves;
+      extents_leaves = c.block.ensures.extents_leaves;
+    }
 
 pub returns-in-Extents : goal.returns-in-Extents
 returns-in-Extents c =
     let a = c.args in
-    let v = c.covering-1.given in (
-      part (goal.at.returns-in-Extents c).After-block c.part_at-in-Extents.result _ v.1 (subst (λ (s : Source). PartIn a.catalog a.extents c.part_at-in-Extents.result s v.0.0.start) (sym c.in-Extents.is) c.part_at-in-Extents.ensures),
-      c.block.ensures.catalog_leaves,
-    )
+    let v = c.in-Mapped in record {
+      part = part (goal.at.returns-in-Extents c).After-block c.part_at-in-Extents.result _ v.is (subst (λ (s : Source). PartIn a.catalog a.extents c.part_at-in-Extents.result s v.covering.start) (sym c.in-Extents.is) c.part_at-in-Extents.ensures);
+      catalog_leaves = c.block.ensures.catalog_leaves;
+      extents_leaves = c.block.ensures.extents_leaves;
+    }
 
 pub returns-in-Refused : goal.returns-in-Refused
 returns-in-Refused c =
-    (part (goal.at.returns-in-Refused c).After-block c.no_part.result _ c.in-Refused.is c.no_part.ensures, c.block.ensures.catalog_leaves)
+    record {
+      part = part (goal.at.returns-in-Refused c).After-block c.no_part.result _ c.in-Refused.is c.no_part.ensures;
+      catalog_leaves = c.block.ensures.catalog_leaves;
+      extents_leaves = c.block.ensures.extents_leaves;
+    }
