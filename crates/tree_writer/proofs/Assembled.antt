@@ -7,7 +7,7 @@ use native.Mathlib.Omega.{arith}
 use lib.ListN.{length, replicate, replicate-append-replicate}
 use Rattle.btree.specs.Lists.{span}
 use Rattle.btree.proofs.Lists.{gather_append}
-use Rattle.shape.specs.Shape.{records_in, first_in, record_under, nodes_at, start, levels}
+use Rattle.shape.specs.Shape.{records_in, first_in, record_under, nodes_at, start}
 use Rattle.shape.proofs.Shape.{leaf-nodes, start_first, start-low, start-step, nodes-some, levels-most, levels-deep, records-few}
 use Rattle.shape.proofs.Shaped.{Deep}
 use Rattle.laid.specs.Laid.{maps_for, map_node, header, node, level_nodes, image_nodes, joined, laid}

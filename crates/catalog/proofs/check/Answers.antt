@@ -7,7 +7,7 @@ check-requires c = catalog-fair _ c.of_catalog.ensures
 
 pub returns : goal.returns
 returns c = record {
-      equal = rw c.of_catalog.ensures at c.check.ensures.equal;
-      says = rw c.of_catalog.ensures at c.check.ensures.says;
-      leaves = rw c.of_catalog.ensures at c.check.ensures.leaves;
-    }
+  equal = rw c.of_catalog.ensures at c.check.ensures.equal;
+  says = rw c.of_catalog.ensures at c.check.ensures.says;
+  leaves = rw c.of_catalog.ensures at c.check.ensures.leaves;
+}

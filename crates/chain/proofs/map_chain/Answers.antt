@@ -63,12 +63,11 @@ returns-then-not-map_node_right c =
     (no-map-node (linked (goal.at.returns-then-not-map_node_right c).Else-next-eq0) (range (goal.at.returns-then-not-map_node_right c).Else-next-total) (fresh (goal.at.returns-then-not-map_node_right c).Else-has) (sym c.map_node_right.ensures ∙ c.if-not-map_node_right.true))
 
 pub loop-left-preserved : goal.loop-left-preserved
-loop-left-preserved c =
-    (
-      rw c.mark-in-loop-left.ensures
-          (passed-more (linked (goal.at.loop-left-preserved c).Else-next-eq0) (range (goal.at.loop-left-preserved c).Else-next-total) (fresh (goal.at.loop-left-preserved c).Else-has) (sym c.map_node_right.ensures ∙ c.if-not-map_node_right.false)),
-      rw c.mark-in-loop-left.ensures (mark-length _ _) ∙ c.loop-left.invariant.1,
-    )
+loop-left-preserved c = (
+  rw c.mark-in-loop-left.ensures
+      (passed-more (linked (goal.at.loop-left-preserved c).Else-next-eq0) (range (goal.at.loop-left-preserved c).Else-next-total) (fresh (goal.at.loop-left-preserved c).Else-has) (sym c.map_node_right.ensures ∙ c.if-not-map_node_right.false)),
+  rw c.mark-in-loop-left.ensures (mark-length _ _) ∙ c.loop-left.invariant.1,
+)
 
 pub overflow_mul-map_size : goal.overflow_mul-map_size
 overflow_mul-map_size c = omega (arith, c.map_size.ensures.1)

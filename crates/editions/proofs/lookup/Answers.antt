@@ -57,6 +57,6 @@ returns c =
     let never = never-25 f (fair f l) a.image.now (of_key f q) _ in record {
       equal = e ∙ sym (lookup-listed f a.image.now l _ _);
       says = says-lookup f a.image.now l b q (key-in_range (goal.at.returns c).Start) _ _ (λ z. never (ap (λ (l : Lookup). (lookup_reply l.answer).number) (sym e) ∙ z))
-            (rw e (lookup-says f (fair f l) a.image.now (of_key f q) _ (means a.edition a.size a.image.now q b (key-in_range (goal.at.returns c).Start))));
+          (rw e (lookup-says f (fair f l) a.image.now (of_key f q) _ (means a.edition a.size a.image.now q b (key-in_range (goal.at.returns c).Start))));
       leaves = c.lookup.ensures.leaves;
     }

@@ -1,6 +1,5 @@
 -- `leaf_level` meets its contract. Assumes nothing.
 use mathlib.Core.Path.{refl, sym, ap, ◌∙◌}
-use Prim.Native.Nat.{◌-◌}
 use native.Mathlib.Omega.{arith}
 use Rattle.put.specs.Put.{put}
 use Rattle.put.proofs.Laws.{turn, put-none}
@@ -20,8 +19,7 @@ leaf_node-a-requires c =
 
 pub loop-k-preserved : goal.loop-k-preserved
 loop-k-preserved c =
-    let l = c.loop-k in
-    (
+    let l = c.loop-k in (
       search rules,
       turn _ c.leaf_node-a.ensures
           ∙ ap (put l.target l.a) (leaves-on c.args.row.now c.args.first c.args.nodes l.k c.end_of-to.result c.link-forward.result c.back_link-back.result

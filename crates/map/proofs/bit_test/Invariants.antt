@@ -1,5 +1,4 @@
 -- `bit_test` meets its contract. The loop's invariant: what is left from `node` on gives what the whole map gives. Assumes nothing.
-use Prim.Native.Nat.{◌-◌}
 use Rattle.frame.specs.Form.{layout_of}
 use Rattle.map.proofs.Searched.{Searched}
 use Rattle.map.proofs.bit_test.Given as goal

@@ -1,8 +1,7 @@
 -- `wrong_in` meets its contract. The loops' invariants: what is left from the byte, and from the bit in it, gives what all bytes give. Assumes nothing.
 use mathlib.Core.Path.{◌≡◌, sym, ap, ◌∙◌}
-use mathlib.Core.Logic.{⊎_elim}
 use mathlib.Core.Option.{some}
-use Prim.Native.Nat.{◌+◌, ◌-◌, ◌*◌}
+use Prim.Native.Nat.{◌+◌, ◌*◌}
 use native.Mathlib.Omega.{arith}
 use Rattle.map.proofs.Bits.{bit-right, bit-wrong, bits-end, byte_more, bytes-end, same-masked, masked_same, same_byte}
 use Rattle.map.proofs.SameBytes.{after_same}

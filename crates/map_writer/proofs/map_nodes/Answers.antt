@@ -1,6 +1,5 @@
 -- `map_nodes` meets its contract. Assumes nothing.
 use mathlib.Core.Path.{refl, sym, ap, ◌∙◌}
-use Prim.Native.Nat.{◌-◌}
 use native.Mathlib.Omega.{arith}
 use Rattle.put.specs.Put.{put}
 use Rattle.put.proofs.Laws.{turn, put-none}

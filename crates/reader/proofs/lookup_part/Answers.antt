@@ -27,18 +27,18 @@ data_of-requires c =
 
 pub returns-in-Found : goal.returns-in-Found
 returns-in-Found c = record {
-      part = rw (answers (goal.at.returns-in-Found c).After-lookup-found _ c.in-Found.is) c.data_of.ensures;
-      leaves = leaves (goal.at.returns-in-Found c).After-lookup-found;
-    }
+  part = rw (answers (goal.at.returns-in-Found c).After-lookup-found _ c.in-Found.is) c.data_of.ensures;
+  leaves = leaves (goal.at.returns-in-Found c).After-lookup-found;
+}
 
 pub returns-in-Absent : goal.returns-in-Absent
 returns-in-Absent c = record {
-      part = rw (answers (goal.at.returns-in-Absent c).After-lookup-found _ c.in-Absent.is) c.no_part.ensures;
-      leaves = leaves (goal.at.returns-in-Absent c).After-lookup-found;
-    }
+  part = rw (answers (goal.at.returns-in-Absent c).After-lookup-found _ c.in-Absent.is) c.no_part.ensures;
+  leaves = leaves (goal.at.returns-in-Absent c).After-lookup-found;
+}
 
 pub returns-in-Refused : goal.returns-in-Refused
 returns-in-Refused c = record {
-      part = rw (answers (goal.at.returns-in-Refused c).After-lookup-found _ c.in-Refused.is) c.no_part-in-Refused.ensures;
-      leaves = leaves (goal.at.returns-in-Refused c).After-lookup-found;
-    }
+  part = rw (answers (goal.at.returns-in-Refused c).After-lookup-found _ c.in-Refused.is) c.no_part-in-Refused.ensures;
+  leaves = leaves (goal.at.returns-in-Refused c).After-lookup-found;
+}

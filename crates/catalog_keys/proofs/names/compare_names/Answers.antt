@@ -1,6 +1,5 @@
 -- `names::compare_names` meets its contract. The loop's invariant: the names compare as what is left of them. Assumes nothing.
 use mathlib.Core.Path.{refl, sym, ◌∙◌}
-use Prim.Native.Nat.{◌-◌}
 use native.Mathlib.Omega.{arith}
 use native.Mathlib.Numerals.{add-one}
 use Rattle.catalog_keys.proofs.Prefixes.{names-differ, names-on, names-end}

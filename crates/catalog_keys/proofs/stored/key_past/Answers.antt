@@ -1,7 +1,7 @@
 -- `stored::key_past` meets its contract. The loop's invariant: the first i bytes are the image's. Assumes nothing.
 use mathlib.Core.Path.{◌≡◌, refl, ap, ◌∙◌}
 use mathlib.Core.List.{List, append-nil}
-use Prim.Native.Nat.{ℕ, ◌+◌, ◌-◌}
+use Prim.Native.Nat.{ℕ, ◌+◌}
 use native.Mathlib.Omega.{arith}
 use lib.ListN.{get_or, set, replicate, length-set}
 use Rattle.catalog_keys.specs.Key.{bytes_at}

@@ -1,7 +1,7 @@
 -- `stored::key_past` meets its contract. The loop's invariant: the first i bytes are the image's. Assumes nothing.
 use mathlib.Core.Path.{◌≡◌}
 use mathlib.Core.List.{◌++◌}
-use Prim.Native.Nat.{◌+◌, ◌-◌, ◌≤◌}
+use Prim.Native.Nat.{◌-◌, ◌≤◌}
 use lib.ListN.{length, drop}
 use Rattle.catalog_keys.specs.Key.{bytes_at}
 use Rattle.catalog_keys.proofs.stored.key_past.Given as goal

@@ -6,7 +6,7 @@ use native.Mathlib.Omega.{arith}
 use borrow.Author.Tests.{leb-true, le-leb}
 use borrow.Author.Count.{below_more}
 use Rattle.btree.proofs.Telling.{tells-no, told-no}
-use Rattle.catalog_nodes.specs.Node.{record_end, offset_word}
+use Rattle.catalog_nodes.specs.Node.{offset_word}
 use Rattle.catalog_nodes.proofs.Sizes.{max-most}
 use Rattle.catalog_nodes.proofs.Walked.{least-inside}
 use borrow.Author.Rules.{rules}

@@ -1,6 +1,6 @@
 -- `records::keys_lawful` meets its contract. Assumes nothing.
 use native.Mathlib.Omega.{arith}
-use Prim.Native.Nat.{◌+◌, ◌-◌, ◌≤◌}
+use Prim.Native.Nat.{◌+◌, ◌≤◌}
 use lib.ListN.{length}
 use borrow.Author.Count.{below_more}
 use Rattle.frame.proofs.Forms.{key-some}

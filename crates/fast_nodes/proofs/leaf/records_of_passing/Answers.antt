@@ -26,21 +26,21 @@ of-records c r l =
 
 pub returns-then-be32_in-before : goal.returns-then-be32_in-before
 returns-then-be32_in-before c = record {
-      passes = λ h. absurd (omega arith);
-      count = (λ h. absurd (omega arith), omega arith);
-    }
+  passes = λ h. absurd (omega arith);
+  count = (λ h. absurd (omega arith), omega arith);
+}
 
 pub returns-then-be64_in-raw : goal.returns-then-be64_in-raw
 returns-then-be64_in-raw c = record {
-      passes = λ h. absurd (omega arith);
-      count = (λ h. absurd (omega arith), omega arith);
-    }
+  passes = λ h. absurd (omega arith);
+  count = (λ h. absurd (omega arith), omega arith);
+}
 
 pub returns-then-not-is_leaf : goal.returns-then-not-is_leaf
 returns-then-not-is_leaf c = record {
-      passes = λ h. absurd (omega arith);
-      count = (λ h. absurd (omega arith), omega arith);
-    }
+  passes = λ h. absurd (omega arith);
+  count = (λ h. absurd (omega arith), omega arith);
+}
 
 pub is_keyed_leaf-requires : goal.is_keyed_leaf-requires
 is_keyed_leaf-requires c =
@@ -48,9 +48,9 @@ is_keyed_leaf-requires c =
 
 pub returns-then-not-is_keyed_leaf : goal.returns-then-not-is_keyed_leaf
 returns-then-not-is_keyed_leaf c = record {
-      passes = λ h. absurd (omega arith);
-      count = (λ h. absurd (omega arith), omega arith);
-    }
+  passes = λ h. absurd (omega arith);
+  count = (λ h. absurd (omega arith), omega arith);
+}
 
 pub returns : goal.returns
 returns c =

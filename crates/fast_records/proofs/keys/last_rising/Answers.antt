@@ -1,6 +1,6 @@
 -- `keys::last_rising` meets its contract. Assumes nothing.
 use native.Mathlib.Omega.{arith}
-use Prim.Native.Nat.{◌+◌, ◌-◌, ◌*◌, ◌≤◌}
+use Prim.Native.Nat.{◌+◌, ◌*◌, ◌≤◌}
 use mathlib.Core.Path.{◌≡◌}
 use Rattle.image.proofs.Words.{Bytes}
 use Rattle.fast_records.proofs.Rising.{next_start, start-within, key-at, climbs-one, climbs-more, climbs-rises}

@@ -16,15 +16,15 @@ fresh c = sym (c.is_fresh.ensures ∙ rw c.requires.2) ∙ c.if-not-is_fresh.fal
 
 pub returns-then-not-is_fresh : goal.returns-then-not-is_fresh
 returns-then-not-is_fresh c = record {
-      surely = λ h. absurd (omega arith);
-      count = (λ h. absurd (omega arith), omega arith);
-    }
+  surely = λ h. absurd (omega arith);
+  count = (λ h. absurd (omega arith), omega arith);
+}
 
 pub returns-then-be32_in-node : goal.returns-then-be32_in-node
 returns-then-be32_in-node c = record {
-      surely = λ h. absurd (omega arith);
-      count = (λ h. absurd (omega arith), omega arith);
-    }
+  surely = λ h. absurd (omega arith);
+  count = (λ h. absurd (omega arith), omega arith);
+}
 
 pub records_of_passing-requires : goal.records_of_passing-requires
 unfolding view_of

@@ -1,7 +1,6 @@
 -- `eights::same_bytes` meets its contract. Assumes nothing.
 use native.Mathlib.Omega.{arith}
 use mathlib.Core.Path.{sym, ◌∙◌}
-use Prim.Native.Nat.{◌-◌}
 use Rattle.image.proofs.Words.{Bytes}
 use Rattle.map.proofs.SameBytes.{eight-more}
 use Rattle.map.proofs.eights.same_bytes.Goals as goal

@@ -1,6 +1,5 @@
 -- `keys::first_fall` meets its contract. Assumes nothing.
 use native.Mathlib.Omega.{arith}
-use Prim.Native.Nat.{◌-◌}
 use mathlib.Core.Path.{sym, ap}
 use borrow.Author.Count.{below_more}
 use Rattle.btree.specs.Header.{view_of}
@@ -33,11 +32,10 @@ returns-then-not-is_under c =
     (λ r. told-no _ c.is_under.ensures (c.if-not-is_under.true) r.1)))
 
 pub loop-i-preserved : goal.loop-i-preserved
-loop-i-preserved c =
-    (
-      search rules,
-      below_more _ _ c.loop-i.invariant.1 (c.over_before.ensures.holds (c.if-not-over_before.false), c.is_under.ensures.holds (c.if-not-is_under.false)),
-    )
+loop-i-preserved c = (
+  search rules,
+  below_more _ _ c.loop-i.invariant.1 (c.over_before.ensures.holds (c.if-not-over_before.false), c.is_under.ensures.holds (c.if-not-is_under.false)),
+)
 
 pub returns : goal.returns
 unfolding view_of first_fall

@@ -1,5 +1,4 @@
 -- `record::record_with` meets its contract: what is left of the records gives what all give. Assumes nothing.
-use Prim.Native.Nat.{◌-◌}
 use mathlib.Core.Path.{◌≡◌, sym, ap, ◌∙◌}
 use native.Mathlib.Nat.{sub-zero}
 use lib.Dec.{eqb}

@@ -1,6 +1,5 @@
 -- `descent::reach` meets its contract. Assumes nothing.
 use native.Mathlib.Omega.{arith}
-use Prim.Native.Nat.{◌-◌}
 use mathlib.Core.Path.{sym, subst, ◌∙◌}
 use Rattle.btree.specs.Header.{view_of}
 use Rattle.formats.specs.Asked.{asked_rank}

@@ -4,7 +4,7 @@ use Rattle.walk.proofs.Ends.{closing-start, ends-end, ends_on, ends-stop}
 use Rattle.step.specs.State.{last_at}
 use Rattle.btree.specs.Header.{view_of}
 use Rattle.formats.specs.Format.{view}
-use Prim.Native.Nat.{ℕ, ◌-◌, pred}
+use Prim.Native.Nat.{ℕ, pred}
 use mathlib.Core.Path.{◌≡◌, sym, ap, ◌∙◌}
 use borrow.Author.Rules.{rules}
 use Rattle.walk.proofs.closing.closing_tests.Goals as goal
