@@ -1,29 +1,33 @@
-// Prints the listing of an image, or of what can be read from a descriptor; and the verdict on an image that has a name.
+// Prints the listing of an image, or of what a reader gives; and the verdict on an image that has a name.
 #![tactic(auto)]
 
 ghost use Rattle.std.specs.Prelude.{◌≡◌};
+ghost use Rattle.std.specs.Io.{ReadsAtMost};
 ghost use Rattle.extents.specs.Reader.{verdict};
 
 use btree::Verdict;
 use extents::check;
 use lines::{print, print_count, print_fields, print_titles, print_verdict};
 use listing::{Row, leaf_record, row_count, row_fields};
+use std::io;
+use std::io::{Read, Write};
 
 pub mod lines;
 
-fn print_row(image: &[u8], row: Row) {
+fn print_row<W: Write>(out: &mut W, image: &[u8], row: Row) -> io::Result<()> {
     match row {
-        Row::Record(node, i) => print_fields(row_fields(image, node, i)),
-        Row::NoRecord => {}
+        Row::Record(node, i) => print_fields(out, row_fields(image, node, i)),
+        Row::NoRecord => Ok(()),
     }
 }
 
-fn print_rows(image: &[u8], rows: u32) {
+fn print_rows<W: Write>(out: &mut W, image: &[u8], rows: u32) -> io::Result<()> {
     let mut k: u32 = 0;
     while k < rows {
-        print_row(image, leaf_record(image, k));
+        print_row(out, image, leaf_record(image, k))?;
         k += 1;
     }
+    Ok(())
 }
 
 // With the bytes that the longest image needs: a bit for each of 65,536 nodes.
@@ -35,42 +39,46 @@ fn verdict_on(image: &[u8]) -> Verdict
 }
 
 // The verdict; and of a sound image the leaf records and their count.
-pub fn print_listing(image: &[u8]) {
+pub fn print_listing<W: Write>(out: &mut W, image: &[u8]) -> io::Result<()> {
     let verdict = verdict_on(image);
-    print_verdict(verdict);
+    print_verdict(out, verdict)?;
     if verdict.number != 0 {
-        return;
+        return Ok(());
     }
-    print_titles();
+    print_titles(out)?;
     let rows = row_count(image);
-    print_rows(image, rows);
-    print_count(rows);
+    print_rows(out, image, rows)?;
+    print_count(out, rows)
 }
 
 // A name, and the verdict on its image.
-pub fn print_case(name: &[u8], image: &[u8]) {
-    print(name);
-    print(b": ");
-    print_verdict(verdict_on(image));
+pub fn print_case<W: Write>(out: &mut W, name: &[u8], image: &[u8]) -> io::Result<()> {
+    print(out, name)?;
+    print(out, b": ")?;
+    print_verdict(out, verdict_on(image))
 }
 
-// A short read is the end or an error, and only another read tells which.
-fn at_end(fd: i32) -> bool {
-    let mut more = [0u8; 1];
-    libc::read(fd, &mut more) == 0
+// Reads until the input ends or buf is full, and answers how many bytes; or the error of the read that failed.
+fn read_full<R: Read>(input: &mut R, buf: &mut [u8]) -> io::Result<usize>
+    ensures { ReadsAtMost result buf.new }
+{
+    let mut done = 0;
+    while done < buf.len() {
+        let n = input.read(&mut buf[done..])?;
+        if n == 0 {
+            break;
+        }
+        done += n;
+    }
+    Ok(done)
 }
 
-// Reads a descriptor to its end. One byte more than is listed is asked for, so that a longer input is seen.
-pub fn print_input(fd: i32) {
+// Reads an input to its end. One byte more than is listed is asked for, so that a longer input is seen.
+pub fn print_input<W: Write, R: Read>(out: &mut W, input: &mut R) -> io::Result<()> {
     let mut buf = [0u8; 65537];
-    let n = io::read_full(fd, &mut buf);
-    if n > 65536 {
-        print(b"too long\n");
-        return;
+    match read_full(input, &mut buf) {
+        Ok(n) if n > 65536 => print(out, b"too long\n"),
+        Ok(n) => print_listing(out, &buf[..n]),
+        Err(_) => print(out, b"cannot read the input\n"),
     }
-    if !at_end(fd) {
-        print(b"cannot read the input\n");
-        return;
-    }
-    print_listing(&buf[..n]);
 }

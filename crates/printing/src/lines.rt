@@ -1,43 +1,44 @@
-// The lines of a listing, on standard output.
+// The lines of a listing, on a writer.
 use btree::Verdict;
-use libc::STDOUT_FILENO;
+use std::io;
+use std::io::Write;
 
-pub fn print(text: &[u8]) {
-    io::write_all(STDOUT_FILENO, text);
+pub fn print<W: Write>(out: &mut W, text: &[u8]) -> io::Result<()> {
+    out.write_all(text)
 }
 
-fn print_number(n: u32) {
-    io::print_decimal(STDOUT_FILENO, n as u64);
+fn print_number<W: Write>(out: &mut W, n: u32) -> io::Result<()> {
+    write!(out, "{n}")
 }
 
-pub fn print_verdict(v: Verdict) {
-    print(b"verdict ");
-    print_number(v.number);
-    print(b" ");
+pub fn print_verdict<W: Write>(out: &mut W, v: Verdict) -> io::Result<()> {
+    print(out, b"verdict ")?;
+    print_number(out, v.number)?;
+    print(out, b" ")?;
     let place = v.place;
-    print_number(place.node);
-    print(b" ");
-    print_number(place.offset);
-    print(b"\n");
+    print_number(out, place.node)?;
+    print(out, b" ")?;
+    print_number(out, place.offset)?;
+    print(out, b"\n")
 }
 
-pub fn print_titles() {
-    print(b"file fork start s1 n1 s2 n2 s3 n3\n");
+pub fn print_titles<W: Write>(out: &mut W) -> io::Result<()> {
+    print(out, b"file fork start s1 n1 s2 n2 s3 n3\n")
 }
 
-pub fn print_fields(fields: [u32; 9]) {
-    print_number(fields[0]);
+pub fn print_fields<W: Write>(out: &mut W, fields: [u32; 9]) -> io::Result<()> {
+    print_number(out, fields[0])?;
     let mut i = 1;
     while i < 9 {
-        print(b" ");
-        print_number(fields[i]);
+        print(out, b" ")?;
+        print_number(out, fields[i])?;
         i += 1;
     }
-    print(b"\n");
+    print(out, b"\n")
 }
 
-pub fn print_count(rows: u32) {
-    print(b"records ");
-    print_number(rows);
-    print(b"\n");
+pub fn print_count<W: Write>(out: &mut W, rows: u32) -> io::Result<()> {
+    print(out, b"records ")?;
+    print_number(out, rows)?;
+    print(out, b"\n")
 }
