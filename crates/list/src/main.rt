@@ -1,6 +1,8 @@
 // Lists the image on standard input.
 #![tactic(auto)]
 
-fn main() {
-    printing::print_input(libc::STDIN_FILENO);
+use std::io;
+
+fn main(rt: HostRuntime) -> io::Result<()> {
+    printing::print_input(&mut rt.stdout(), &mut rt.stdin())
 }
