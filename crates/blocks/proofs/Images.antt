@@ -1,7 +1,7 @@
 -- What block mapping says of any two images: refusals in their order, and of two sound ones what the leaf records say.
 -- Assumes nothing.
 use mathlib.Core.Path.{◌≡◌, refl, sym, ap, subst, ◌∙◌}
-use mathlib.Core.Logic.{◌≢◌, ◌⊎◌, ⊎_elim}
+use mathlib.Core.Logic.{◌≢◌, ⊎_elim}
 use mathlib.Core.List.{List}
 use Prim.Native.Nat.{ℕ, ◌+◌, ◌≤◌, ◌<◌}
 use native.Mathlib.Omega.{arith}
@@ -35,7 +35,7 @@ use Rattle.coverings.specs.declared.answers.Source.{Source}
 use Rattle.coverings.specs.declared.answers.Source.TheVariants.{Catalog, Extents}
 use Rattle.coverings.specs.declared.answers.Covering.{Covering}
 use Rattle.coverings.specs.declared.answers.Mapping.{Mapping}
-use Rattle.coverings.specs.declared.answers.Mapping.TheVariants.{Mapped, Refused}
+use Rattle.coverings.specs.declared.answers.Mapping.TheVariants.{Mapped}
 use Rattle.coverings.specs.Covered.{first_start, refused_by}
 use Rattle.blocks.specs.Blocks.{Asked, dec_asked, block_of}
 use Rattle.blocks.specs.Demands.{IsFile, ByFirst, ByLater, Given, image_of, SoundBlock, BlockSays}

@@ -8,6 +8,6 @@ use Rattle.listing.proofs.row_count.Goals as goal
 pub returns : goal.returns
 unfolding view_of
 returns c = let e = c.be32.ensures in record {
-      equal = e;
-      whole = λ s. e ∙ sym (rows-counted (view c.args.image.now) s.tree s.totals);
-    }
+  equal = e;
+  whole = λ s. e ∙ sym (rows-counted (view c.args.image.now) s.tree s.totals);
+}

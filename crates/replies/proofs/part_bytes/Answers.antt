@@ -1,5 +1,4 @@
 -- `part_bytes` meets its contract. The loop keeps that the bytes before k are the image's, and the others 0. Assumes nothing.
-use Prim.Native.Nat.{◌-◌}
 use native.Mathlib.Omega.{arith}
 use lib.ListN.{length-set}
 use Rattle.replies.proofs.Data.{one_more, zeros-behind, zeros, padded-part_bytes}

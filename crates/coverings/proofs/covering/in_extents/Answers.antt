@@ -32,9 +32,9 @@ covered c = said (dec_covers _ _ _ _) (sym c.covers.ensures ∙ c.if-not-covers.
 
 pub returns-then-not-covers : goal.returns-then-not-covers
 returns-then-not-covers c = record {
-      equal = sym (cond_no (dec_covers _ _ _ _) _ _ (unsaid (dec_covers _ _ _ _) (sym c.covers.ensures ∙ c.if-not-covers.true))) ∙ answers (goal.at.returns-then-not-covers c).After-floor _ c.in-At.is;
-      leaves = leaves (goal.at.returns-then-not-covers c).After-floor;
-    }
+  equal = sym (cond_no (dec_covers _ _ _ _) _ _ (unsaid (dec_covers _ _ _ _) (sym c.covers.ensures ∙ c.if-not-covers.true))) ∙ answers (goal.at.returns-then-not-covers c).After-floor _ c.in-At.is;
+  leaves = leaves (goal.at.returns-then-not-covers c).After-floor;
+}
 
 pub overflow_sub-file_block : goal.overflow_sub-file_block
 overflow_sub-file_block c = omega (arith, (covered (goal.at.overflow_sub-file_block c).Else-not-covers).from)
@@ -52,12 +52,12 @@ returns-else-not-covers c =
 
 pub returns-in-Nowhere : goal.returns-in-Nowhere
 returns-in-Nowhere c = record {
-      equal = answers (goal.at.returns-in-Nowhere c).After-floor _ c.in-Nowhere.is;
-      leaves = leaves (goal.at.returns-in-Nowhere c).After-floor;
-    }
+  equal = answers (goal.at.returns-in-Nowhere c).After-floor _ c.in-Nowhere.is;
+  leaves = leaves (goal.at.returns-in-Nowhere c).After-floor;
+}
 
 pub returns-in-Refused : goal.returns-in-Refused
 returns-in-Refused c = record {
-      equal = answers (goal.at.returns-in-Refused c).After-floor _ c.in-Refused.is;
-      leaves = leaves (goal.at.returns-in-Refused c).After-floor;
-    }
+  equal = answers (goal.at.returns-in-Refused c).After-floor _ c.in-Refused.is;
+  leaves = leaves (goal.at.returns-in-Refused c).After-floor;
+}
