@@ -12,11 +12,11 @@ three_pairs block1 count1 block2 count2 block3 count3 = be16 block1 ++ be16 coun
 abbrev pub two_forks : List ℕ
 two_forks = put 766 (three_pairs 50 3 60 0 65534 3) cartridge
 
--- l1 whose record, at 14 of node 1, is another file's: its key starts at 526 of the image, "length 07, fork .., file number (4), start block (2)"
+-- L1 whose record, at 14 of node 1, is another file's: its key starts at 526 of the image, "length 07, fork .., file number (4), start block (2)"
 abbrev pub other_file : List ℕ
 other_file = put 528 (be32 15) l1
 
--- l1 whose record starts one block later
+-- L1 whose record starts one block later
 abbrev pub later_start : List ℕ
 later_start = put 532 (be16 6) l1
 

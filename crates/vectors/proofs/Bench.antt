@@ -23,7 +23,7 @@ use Rattle.formats.specs.Format.{record_offset, dec_records, dec_node_on}
 use Rattle.vectors.specs.Build.{All, e1}
 use Rattle.vectors.specs.Bench.{Asks, Says, Right, bench}
 
--- of e1 nothing but the fork byte is looked at
+-- of E1 nothing but the fork byte is looked at
 any-key : (file fork start : ℕ) → Lawful fork → Says e1 (Asks.look (asked file fork start) (12 ∷ 0 ∷ 0 ∷ 0 ∷ 0 ∷ 0 ∷ 0 ∷ 0 ∷ 0 ∷ 0 ∷ 0 ∷ 0 ∷ 0 ∷ []))
 unfolding Dec.and Dec.not dec_le dec_lt ℕ_discrete be16_at be32_at says map_dec dec_imp dec_or dec_mem dec_all first_not dec_if_some dec_fresh dec_key_right wrong_key dec_leads dec_totals test ends closing walk halving halved halved_in lookup_of map_bytes dec_descriptor dec_no_tree wrong_in lowest_wrong bit_for dec_lengths dec_map_node dec_header_node chain_from map_record_place map_byte_place bit_test map_tests verdict checked dec_lawful packed compared key_at rank key_length node_map_of kind_on key_size data_size record_size kind_of record_offset length_at dec_key_law dec_extent_records dec_records dec_node_on view_of
 any-key file fork start (inl e) = rw e refl

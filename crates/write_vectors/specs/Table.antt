@@ -52,7 +52,7 @@ two_levels =
 
 abbrev pub writes : List Case
 writes =
-    -- the paper's e1 and l1; a node more than l1 has, which is free: total 3, free 1
+    -- the paper's E1 and L1; a node more than L1 has, which is free: total 3, free 1
     lays [] 512 e1 ∷
     lays only 1024 l1 ∷
     lays only 1536 (put 36 (be32 3) (put 40 (be32 1) l1) ++ replicate 512 0) ∷
