@@ -29,9 +29,6 @@ returns-then-not-four_right-4 c = never
 pub returns-then-not-four_right-5 : goal.returns-then-not-four_right-5
 returns-then-not-four_right-5 c = never
 
-pub returns-then-be16_in-ne414 : goal.returns-then-be16_in-ne414
-returns-then-be16_in-ne414 c = never
-
 pub returns : goal.returns
 returns c e i h =
     let a = c.args in
@@ -41,7 +38,7 @@ returns c e i h =
     let w3 = words_more P 8 w2 (c.four_right-3.ensures (c.if-not-four_right-3.false)) in
     let w4 = words_more P 12 w3 (c.four_right-4.ensures (c.if-not-four_right-4.false)) in
     let w5 = words_more P 16 w4 (c.four_right-5.ensures (c.if-not-four_right-5.false)) in
-    let w6 = below_more P 20 w5 (sym c.be16_in.ensures.0 ∙ c.if-be16_in-ne414.false) in
+    let w6 = below_more P 20 w5 (omega (arith, c.be16_in.ensures.0)) in
     let t = two-right a.image.now (bytes (goal.at.returns c).After-shared_slice_known-1) (a.end - 44) 454 434 (omega arith) (sym c.be32_in.ensures ∙ eqb-true _ _ e) in
     let z : a.end - 44 + 2 ≡ a.end - 42 = omega (arith, c.requires.0) in
     below_more P 22 (below_more P 21 w6 (rw z at t.1)) t.0 i h

@@ -20,12 +20,6 @@ returns-then-not-is_fresh c = record {
   count = (λ h. absurd (omega arith), omega arith);
 }
 
-pub returns-then-be32_in-node : goal.returns-then-be32_in-node
-returns-then-be32_in-node c = record {
-  surely = λ h. absurd (omega arith);
-  count = (λ h. absurd (omega arith), omega arith);
-}
-
 pub records_of_passing-requires : goal.records_of_passing-requires
 unfolding view_of
 records_of_passing-requires c =
@@ -39,7 +33,7 @@ returns c =
       surely = λ z. record {
         fresh = fresh (goal.at.returns c).Else-not-is_fresh;
         passes = q.passes z;
-        leads = ap (be32_at _) (sym c.hfs_start.ensures.0) ∙ sym c.be32_in.ensures ∙ c.if-be32_in-node.false;
+        leads = omega (arith, ap (be32_at _) (sym c.hfs_start.ensures.0) ∙ sym c.be32_in.ensures);
       };
       count = q.count;
     }
