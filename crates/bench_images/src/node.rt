@@ -4,7 +4,7 @@ ghost use Rattle.std.specs.Prelude.{◌≤◌};
 use super::put::{put_words, put16, put32};
 
 // The numbers of a header that differ from image to image.
-#[derive(Clone, Copy)]
+#[derive(Clone, Copy, Default)]
 pub struct Header {
     pub forward: u32,
     pub depth: u32,
@@ -42,13 +42,9 @@ pub fn put_header(image: &mut [u8], h: Header, map: u32) {
 fn put_records(image: &mut [u8], start: usize, n: u32, size: usize, file: u32)
     requires { (start ≤ 3072000) × (n ≤ 36) × (size ≤ 20) × (file ≤ 36) }
 {
-    let mut at = start;
-    let mut i: u32 = 0;
-    while i < n {
+    for i in 0..n {
         let words = [0x0700_0000, (file + i) * 65_536, file + i + 1];
-        put_words(image, at, &words);
-        at += size;
-        i += 1;
+        put_words(image, start + size * i as usize, &words);
     }
 }
 
@@ -56,14 +52,10 @@ fn put_records(image: &mut [u8], start: usize, n: u32, size: usize, file: u32)
 fn put_offsets(image: &mut [u8], base: usize, n: u32, size: u32, free: u32)
     requires { (base ≤ 3072000) × (n ≤ 36) × (size ≤ 20) }
 {
-    let mut i: u32 = 0;
-    let mut at: u32 = 14;
-    while i < n {
-        put16(image, base + 510 - 2 * (i as usize), at);
-        at += size;
-        i += 1;
+    for i in 0..n {
+        put16(image, base + 510 - 2 * i as usize, 14 + size * i);
     }
-    put16(image, base + 510 - 2 * (n as usize), free);
+    put16(image, base + 510 - 2 * n as usize, free);
 }
 
 // A node of three words (forward link, back link; kind, level and count), with n records of this size of the files from `file` up, and where its free space starts.

@@ -9,14 +9,13 @@ pub fn put_leaf_tree(image: &mut [u8], n: u32, free: u32)
     requires { n ≤ 36 }
 {
     let header = Header {
-        forward: 0,
         depth: 1,
         root: 1,
         leaf_records: n,
         first_leaf: 1,
         last_leaf: 1,
         total: 2,
-        free: 0,
+        ..Header::default()
     };
     put_header(image, header, 0xC000_0000);
     put_node(image, 1, [0, 0, 0xFF01_0000 + n], n, 20, 1, free);
@@ -40,47 +39,24 @@ fn put_leaf(image: &mut [u8], i: u32, n: u32)
     );
 }
 
-fn put_leaves(image: &mut [u8], n: u32)
-    requires { n ≤ 36 }
-{
-    let mut i: u32 = 0;
-    while i < n {
-        put_leaf(image, i, n);
-        i += 1;
-    }
-}
-
 // A root with n index records over leaves of one record each. The map has four bytes and one more.
 pub fn put_index_tree(image: &mut [u8], n: u32, free: u32, map: u32, more: u32)
     requires { n ≤ 36 }
 {
     let header = Header {
-        forward: 0,
         depth: 2,
         root: 1,
         leaf_records: n,
         first_leaf: 2,
         last_leaf: n + 1,
         total: n + 2,
-        free: 0,
+        ..Header::default()
     };
     put_header(image, header, map);
     put8(image, 252, more);
     put_node(image, 1, [0, 0, 0x0002_0000 + n], n, 12, 1, free);
-    put_leaves(image, n);
-}
-
-// The header of a file without a tree.
-fn bare_header(forward: u32, total: u32, free: u32) -> Header {
-    Header {
-        forward,
-        depth: 0,
-        root: 0,
-        leaf_records: 0,
-        first_leaf: 0,
-        last_leaf: 0,
-        total,
-        free,
+    for i in 0..n {
+        put_leaf(image, i, n);
     }
 }
 
@@ -88,12 +64,22 @@ fn bare_header(forward: u32, total: u32, free: u32) -> Header {
 pub fn put_empty_tree(image: &mut [u8], total: u32)
     requires { 1 ≤ total }
 {
-    put_header(image, bare_header(0, total, total - 1), 0x8000_0000);
+    let header = Header {
+        total,
+        free: total - 1,
+        ..Header::default()
+    };
+    put_header(image, header, 0x8000_0000);
 }
 
 // A header linked to a map node, node 1, that is linked to itself.
 pub fn put_map_loop(image: &mut [u8]) {
-    put_header(image, bare_header(1, 2, 0), 0xC000_0000);
+    let header = Header {
+        forward: 1,
+        total: 2,
+        ..Header::default()
+    };
+    put_header(image, header, 0xC000_0000);
     // Kind 2, level 0, one record.
     let words = [1, 0, 0x0200_0001];
     put_words(image, 512, &words);

@@ -1,15 +1,16 @@
 // What is written of block mapping: seven numbers, and the covering record's pairs.
 #![tactic(auto)]
 
-ghost use Rattle.std.specs.Prelude.{◌≡◌, ◌<◌};
-ghost use Rattle.replies.specs.Written.{all_bytes};
+ghost use Rattle.std.specs.Prelude.{◌≡◌};
+ghost use Rattle.replies.specs.Written.{data_bytes};
 ghost use Rattle.blocks.specs.Demands.{image_of};
 ghost use Rattle.coverings.specs.Answers.{source_number, block_numbers};
 ghost use Rattle.block_replies.specs.Written.{covering_bytes, Small};
 
 use coverings::answers::{Covering, Mapping, Source};
-use replies::{narrow, part_bytes};
+use replies::part_bytes;
 
+// A function and no `From`, which would have to stand in the source's own crate.
 fn source_number(source: Source) -> u32
     ensures { result ≡ source_number source }
 {
@@ -25,12 +26,11 @@ pub fn block_numbers(mapping: Mapping) -> [u32; 7]
 {
     match mapping {
         Mapping::Mapped(covering, volume) => {
-            let source = covering.source;
             let place = covering.place;
             let start = covering.start as u32;
             [
                 0,
-                source_number(source),
+                source_number(covering.source),
                 place.node,
                 place.offset,
                 volume,
@@ -50,15 +50,14 @@ pub fn block_numbers(mapping: Mapping) -> [u32; 7]
     }
 }
 
-fn pairs_bytes(catalog: &[u8], extents: &[u8], covering: Covering) -> [u8; 102]
-    requires { covering.start < 33554432 }
-    ensures { result ≡ all_bytes (image_of catalog.now extents.now covering.source) (record { at = covering.start; size = 12 }) }
+fn pairs_bytes(catalog: &[u8], extents: &[u8], covering: Covering) -> [u8; 12]
+    ensures { result ≡ data_bytes (image_of catalog.now extents.now covering.source) (record { at = covering.start; size = 12 }) }
 {
-    let source = covering.source;
-    match source {
-        Source::Catalog => part_bytes(catalog, covering.start, 12),
-        Source::Extents => part_bytes(extents, covering.start, 12),
-    }
+    let image = match covering.source {
+        Source::Catalog => catalog,
+        Source::Extents => extents,
+    };
+    part_bytes(image, covering.start, 12)
 }
 
 pub fn covering_bytes(catalog: &[u8], extents: &[u8], mapping: Mapping) -> [u8; 12]
@@ -66,7 +65,7 @@ pub fn covering_bytes(catalog: &[u8], extents: &[u8], mapping: Mapping) -> [u8; 
     ensures { result ≡ covering_bytes catalog.now extents.now mapping }
 {
     match mapping {
-        Mapping::Mapped(covering, _) => narrow(pairs_bytes(catalog, extents, covering)),
+        Mapping::Mapped(covering, _) => pairs_bytes(catalog, extents, covering),
         Mapping::Refused(_, _, _) => [0; 12],
     }
 }

@@ -10,13 +10,14 @@ ghost use Rattle.blocks.specs.Demands.{BlockSays, PartOf};
 ghost use Rattle.blocks.specs.Work.{catalog_number, ExtentsLeft};
 
 use btree::Place;
+use btree::fault::Refusal;
 use catalog::answers::Answer;
 use coverings::answers::{Mapping, Source};
 use coverings::covering::{after_check, in_entry};
 use extent_keys::key::is_lawful;
 use image::part::{no_part, part_at};
 
-// Where a block of a file's fork stands on the volume, and the record that covers it. The fork byte and the name's length are judged first, then the whole catalog, then the whole extents
+// By the parameters of the export. Where a block of a file's fork stands on the volume, and the record that covers it. The fork byte and the name's length are judged first, then the whole catalog, then the whole extents
 // overflow file, and only then the block is looked for.
 pub fn block(
     catalog: &[u8],
@@ -34,11 +35,11 @@ pub fn block(
     ensures extents_leaves { ExtentsLeft extents.now (catalog_number catalog.now (length catalog_work.old) (asked parent name.now) fork) extents_work.old extents_work.new }
 {
     if !is_lawful(fork as u32) {
-        return Mapping::Refused(Source::Catalog, 11, Place { node: 0, offset: 0 });
+        let place = Place { node: 0, offset: 0 };
+        return Mapping::Refused(Source::Catalog, Refusal::AskedKey.number(), place);
     }
     let found = catalog::lookup(catalog, parent, name, catalog_work);
-    let answer = found.answer;
-    match answer {
+    match found.answer {
         Answer::Found(place, entry) => {
             in_entry(
                 catalog,
@@ -52,7 +53,7 @@ pub fn block(
         }
         Answer::Absent(node) => {
             let place = Place { node, offset: 0 };
-            let absent = Mapping::Refused(Source::Catalog, 12, place);
+            let absent = Mapping::Refused(Source::Catalog, Refusal::Absent.number(), place);
             after_check(extents, extents_work, absent)
         }
         Answer::Refused(number, place) => Mapping::Refused(Source::Catalog, number, place),

@@ -1,4 +1,4 @@
-// What C and Rust call. Every element of `out` and `data` is written, whatever the answer; what is left in `results`, `work` and `target`, the answer tells.
+// What C and Rust call, a function for each call and size, as C has no generics. Every element of `out` and `data` is written, whatever the answer; what is left in `results`, `work` and `target`, the answer tells.
 #![tactic(auto)]
 
 ghost use Rattle.std.specs.Prelude.{◌≡◌, length};
@@ -21,8 +21,9 @@ ghost use Rattle.writing.specs.Written.{write_answer, written};
 
 use block_replies::{block_numbers, covering_bytes};
 use blocks::block;
+use btree::fault::verdict;
 use catalog_replies::{entry_bytes, entry_numbers, seen_entry_bytes, seen_numbers};
-use frame::form::Form;
+use frame::form::FormNumbers;
 use replies::{
     found_data, found_wide, lookup_numbers, salvage_reply, seen_data, seen_wide, verdict_numbers,
 };
@@ -33,7 +34,7 @@ pub extern "C" fn hfs_check(image: &[u8], work: &mut [u8], out: &mut [u32; 3])
     ensures numbers { out.new ≡ reply_numbers (checked image.now (length work.old)) }
     ensures leaves { Leaves image.now (checked image.now (length work.old)).number work.old work.new }
 {
-    *out = verdict_numbers(extents::check(image, work));
+    *out = verdict_numbers(verdict(extents::check(image, work)));
 }
 
 // Number, node, offset, keys compared, path length, eight nodes of the path; and the record's data.
@@ -70,7 +71,7 @@ pub extern "C" fn hfs_lookup_many(
     ensures written { results.new ≡ many_results image.now keys.now results.old (length work.old) }
     ensures leaves { Leaves image.now (many_answer image.now keys.now results.old (length work.old)).number work.old work.new }
 {
-    *out = verdict_numbers(extents::lookup_many(image, keys, results, work));
+    *out = verdict_numbers(verdict(extents::lookup_many(image, keys, results, work)));
 }
 
 // Number, node, offset; and the record's data.
@@ -103,7 +104,7 @@ pub extern "C" fn hfs_extents_check(
     ensures numbers { out.new ≡ reply_numbers (checked_as (form_of edition size) image.now (length work.old)) }
     ensures leaves { reader.Leaves (form_of edition size) image.now (checked_as (form_of edition size) image.now (length work.old)).number work.old work.new }
 {
-    *out = verdict_numbers(editions::check(edition, size, image, work));
+    *out = verdict_numbers(verdict(editions::check(edition, size, image, work)));
 }
 
 // For an edition and a node size: number, node, offset, keys compared, path length, eight nodes of the path; and the record's data.
@@ -125,7 +126,7 @@ pub extern "C" fn hfs_extents_lookup(
 {
     let found = editions::lookup(edition, size, image, file, fork, start, work);
     let answer = found.answer;
-    let form = Form {
+    let form = FormNumbers {
         edition,
         tree: 0,
         size,
@@ -150,7 +151,7 @@ pub extern "C" fn hfs_extents_salvage(
     ensures bytes { «data».new ≡ wide_bytes image.now (reader.seen_part (form_of edition size) image.now (salvaged_as (form_of edition size) image.now (asked file fork start))) }
 {
     let seen = editions::salvage(edition, size, image, file, fork, start);
-    let form = Form {
+    let form = FormNumbers {
         edition,
         tree: 0,
         size,
@@ -165,7 +166,7 @@ pub extern "C" fn hfs_catalog_check(image: &[u8], work: &mut [u8], out: &mut [u3
     ensures numbers { out.new ≡ reply_numbers (catalog_reader.checked image.now (length work.old)) }
     ensures leaves { catalog_reader.Leaves image.now (catalog_reader.checked image.now (length work.old)).number work.old work.new }
 {
-    *out = verdict_numbers(catalog::check(image, work));
+    *out = verdict_numbers(verdict(catalog::check(image, work)));
 }
 
 // Of a catalog: number, node, offset, keys compared, path length, eight nodes of the path, type, data size; and the record's data.
@@ -244,5 +245,5 @@ pub extern "C" fn hfs_write_tree(row: &[u8], target: &mut [u8], out: &mut [u32; 
     ensures numbers { out.new ≡ reply_numbers (write_answer row.now target.old) }
     ensures bytes { target.new ≡ written row.now target.old }
 {
-    *out = verdict_numbers(writing::write_tree(row, target));
+    *out = verdict_numbers(verdict(writing::write_tree(row, target)));
 }

@@ -7,7 +7,7 @@ use catalog_entries::{Entry, entry_at};
 use formats::records::place_at;
 use frame::form::of_catalog;
 
-// What a lookup says.
+// What a lookup says: one enum with the data of each case, as every theorem on lookups has it.
 #[derive(Clone, Copy)]
 pub enum Answer {
     // Where the record starts, and what it says.
@@ -26,7 +26,7 @@ pub struct Lookup {
     pub compared: u32,
 }
 
-// What salvage says: seen and not seen are weaker words than found and absent, and a type of their own.
+// What salvage says: seen and not seen are weaker words than found and absent, and a type of their own, as its theorems have it.
 #[derive(Clone, Copy)]
 pub enum Salvage {
     // Where the record starts, and what it says.
@@ -43,7 +43,7 @@ fn entry_of(image: &[u8], place: Place) -> Entry
     entry_at(image, place_at(of_catalog(), place))
 }
 
-// What is answered of every tree, with the entry found.
+// What is answered of every tree, with the entry found: no `From`, as the entry is read in the image.
 pub fn answered_as(image: &[u8], answer: btree::Answer) -> Answer
     ensures { result ≡ answered_as image.now answer }
 {

@@ -6,12 +6,14 @@ pub mod answers;
 ghost use Rattle.std.specs.Prelude.{◌≡◌, ◌<◌, length};
 ghost use Rattle.std.proofs.Math.Decide.{dec_le};
 ghost use Rattle.btree.specs.Decide.{says};
+ghost use Rattle.btree.specs.Faults.{verdict_of};
 ghost use Rattle.catalog_keys.specs.Key.{asked, longest_name};
 ghost use Rattle.catalog.specs.Reader.{checked, CheckSays, Leaves, looked_up, lookup_reply, data_part, found_part, salvaged, seen_part};
 ghost use Rattle.catalog.specs.Demands.{LookupSays, SalvageSays, PartOf};
 
 use answers::{Lookup, Salvage, answered_as, seen_as};
-use btree::{Place, Verdict};
+use btree::Place;
+use btree::fault::Fault;
 use extent_keys::key::SortKey;
 use frame::form::of_catalog;
 
@@ -32,11 +34,11 @@ fn sort_key(parent: u32) -> SortKey
     }
 }
 
-// The first fault in the order of tests, number and place; 16 where too few bytes are lent; 0 at node 0, offset 0 for a sound image.
-pub fn check(image: &[u8], work: &mut [u8]) -> Verdict
-    ensures equal { result ≡ checked image.now (length work.old) }
-    ensures says { CheckSays image.now (length work.old) result }
-    ensures leaves { Leaves image.now result.number work.old work.new }
+// The first fault in the order of tests; that of the working bytes where too few are lent; none for a sound image.
+pub fn check(image: &[u8], work: &mut [u8]) -> Result<(), Fault>
+    ensures equal { verdict_of result ≡ checked image.now (length work.old) }
+    ensures says { CheckSays image.now (length work.old) (verdict_of result) }
+    ensures leaves { Leaves image.now (verdict_of result).number work.old work.new }
 {
     checks::check(of_catalog(), image, work)
 }
@@ -49,11 +51,9 @@ pub fn lookup(image: &[u8], parent: u32, name: &[u8], work: &mut [u8]) -> Lookup
 {
     let lawful = is_short(name);
     let found = reader::lookup(of_catalog(), image, lawful, sort_key(parent), name, work);
-    let answer = found.answer;
-    let path = found.path;
     Lookup {
-        answer: answered_as(image, answer),
-        path,
+        answer: answered_as(image, found.answer),
+        path: found.path,
         compared: found.compared,
     }
 }

@@ -59,19 +59,13 @@ fn directory_at(image: &[u8], start: usize) -> Directory
     requires { start < 300000000000000 }
     ensures { result ≡ directory_at image.now start }
 {
-    let flags = be16(image, start + 2);
-    let valence = be16(image, start + 4);
-    let directory_id = be32(image, start + 6);
-    let created = be32(image, start + 10);
-    let modified = be32(image, start + 14);
-    let backed_up = be32(image, start + 18);
     Directory {
-        flags,
-        valence,
-        directory_id,
-        created,
-        modified,
-        backed_up,
+        flags: be16(image, start + 2),
+        valence: be16(image, start + 4),
+        directory_id: be32(image, start + 6),
+        created: be32(image, start + 10),
+        modified: be32(image, start + 14),
+        backed_up: be32(image, start + 18),
     }
 }
 
@@ -80,15 +74,11 @@ fn fork_at(image: &[u8], start: usize, extents: usize) -> Fork
     requires { (start < 400000000000000) × (extents < 400000000000000) }
     ensures { result ≡ fork_at image.now start extents }
 {
-    let first_block = be16(image, start);
-    let logical_length = be32(image, start + 2);
-    let physical_length = be32(image, start + 6);
-    let extents = extent_data_at(image, extents);
     Fork {
-        first_block,
-        logical_length,
-        physical_length,
-        extents,
+        first_block: be16(image, start),
+        logical_length: be32(image, start + 2),
+        physical_length: be32(image, start + 6),
+        extents: extent_data_at(image, extents),
     }
 }
 
@@ -96,25 +86,16 @@ fn file_at(image: &[u8], start: usize) -> File
     requires { start < 300000000000000 }
     ensures { result ≡ file_at image.now start }
 {
-    let flags = byte_at(image, start + 2);
-    let file_type = byte_at(image, start + 3);
-    let file_id = be32(image, start + 20);
-    let data_fork = fork_at(image, start + 24, start + 74);
-    let resource_fork = fork_at(image, start + 34, start + 86);
-    let created = be32(image, start + 44);
-    let modified = be32(image, start + 48);
-    let backed_up = be32(image, start + 52);
-    let clump_size = be16(image, start + 72);
     File {
-        flags,
-        file_type,
-        file_id,
-        data_fork,
-        resource_fork,
-        created,
-        modified,
-        backed_up,
-        clump_size,
+        flags: byte_at(image, start + 2),
+        file_type: byte_at(image, start + 3),
+        file_id: be32(image, start + 20),
+        data_fork: fork_at(image, start + 24, start + 74),
+        resource_fork: fork_at(image, start + 34, start + 86),
+        created: be32(image, start + 44),
+        modified: be32(image, start + 48),
+        backed_up: be32(image, start + 52),
+        clump_size: be16(image, start + 72),
     }
 }
 
@@ -122,29 +103,23 @@ fn thread_at(image: &[u8], start: usize) -> Thread
     requires { start < 300000000000000 }
     ensures { result ≡ thread_at image.now start }
 {
-    let parent_id = be32(image, start + 10);
-    let name_length = byte_at(image, start + 14);
     Thread {
-        parent_id,
-        name_length,
+        parent_id: be32(image, start + 10),
+        name_length: byte_at(image, start + 14),
     }
 }
 
 // The leaf record that starts at a byte of the image. Test 5 leaves no type but 4 after the first three.
+#[tactic(auto, unfolding(crate::specs::Entry::entry_at, catalog_nodes::specs::Node::type_at))]
 pub fn entry_at(image: &[u8], at: usize) -> Entry
     requires { at < 200000000000000 }
     ensures { result ≡ entry_at image.now at }
 {
     let start = data_at(image, at);
-    let t = byte_at(image, start);
-    if t == 1 {
-        return Entry::Directory(directory_at(image, start));
+    match byte_at(image, start) {
+        1 => Entry::Directory(directory_at(image, start)),
+        2 => Entry::File(file_at(image, start)),
+        3 => Entry::DirectoryThread(thread_at(image, start)),
+        _ => Entry::FileThread(thread_at(image, start)),
     }
-    if t == 2 {
-        return Entry::File(file_at(image, start));
-    }
-    if t == 3 {
-        return Entry::DirectoryThread(thread_at(image, start));
-    }
-    Entry::FileThread(thread_at(image, start))
 }

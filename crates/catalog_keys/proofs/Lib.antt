@@ -3,4 +3,4 @@ pub mod Letters
 pub mod Order
 pub mod Reading
 pub mod Prefixes
-pub mod Signs
+pub mod Answered

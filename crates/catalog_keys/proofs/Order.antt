@@ -121,3 +121,10 @@ module _ (p : ℕ) (name : List ℕ) (n : ℕ) (e : n ≡ min longest_name (leng
       go : Dec (length name ≤ longest_name) → rank (asked p (take n name)) ≡ rank (asked p name)
       go (yes h) = ap rank (cut-none h)
       go (no h) = let k : n ≡ 31 = omega arith in rw k (spelled-take 31 p name)
+
+  pub cut-answer : (k : Key) (z : ℤ) → IsShort k → z ≡ compared (asked p (take n name)) k
+      → (IsShort (asked p name) → z ≡ compared (asked p name) k) × (z ≡ ranked (rank (asked p name)) (rank k) (pos 0))
+  cut-answer k z s h = (
+    λ b. h ∙ ap (λ (a : Key). compared a k) (cut-none b),
+    h ∙ rank-order _ k cut_short s ∙ ap (λ (r : ℕ). ranked r (rank k) (pos 0)) cut-rank,
+  )

@@ -1,6 +1,8 @@
 -- The key of a catalog record, its order, and its rank.
 -- Assumes nothing.
 use Rattle.std.specs.Prelude.{List, [], ◌∷◌, ℕ, zero, suc, ◌+◌, ◌*◌, ◌≤◌, min, ℤ, pos, negsuc, length, get_or}
+use Rattle.std.specs.declared.cmp.Ordering.{Ordering}
+use Rattle.std.specs.Ordering.{match_ordering}
 use Rattle.image.specs.Bytes.{be32_at}
 use Rattle.btree.specs.Ranked.{ranked}
 use Rattle.catalog_keys.specs.Weights.{weight}
@@ -44,6 +46,10 @@ names (x ∷ xs) (y ∷ ys) = ranked (weight x) (weight y) (names xs ys)
 -- "Keys compare by parent, then name"; "A comparison answers .. -1, 0 or 1."
 unfoldable pub compared : Key → Key → ℤ
 compared a b = ranked a.parent b.parent (names a.name b.name)
+
+-- the number that an answer stands for
+abbrev pub number : Ordering → ℤ
+number o = match_ordering o (negsuc 0) (pos 0) (pos 1)
 
 -- the weights of a name: "keys that weigh the same are the same key"
 unfoldable pub weigh : List ℕ → List ℕ

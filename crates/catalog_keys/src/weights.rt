@@ -2,8 +2,6 @@
 ghost use Rattle.std.specs.Prelude.{◌≡◌, ◌<◌};
 ghost use Rattle.catalog_keys.specs.Weights.{weights, weight};
 
-use image::within::wide;
-
 pub const WEIGHTS: [u8; 256] = *b"\
     \x00\x01\x02\x03\x04\x05\x06\x07\x08\x09\x0a\x0b\x0c\x0d\x0e\x0f\
     \x10\x11\x12\x13\x14\x15\x16\x17\x18\x19\x1a\x1b\x1c\x1d\x1e\x1f\
@@ -33,5 +31,5 @@ pub fn weight_in(table: &[u8; 256], b: u8) -> u32
     requires { table.now ≡ weights }
     ensures { (result ≡ weight b) × (result < 256) }
 {
-    wide(table[b as usize])
+    u32::from(table[usize::from(b)])
 }

@@ -13,6 +13,7 @@ use catalog_nodes::records::size_of_type;
 use frame::form::of_catalog;
 use replies::{found_bytes, lookup_numbers, salvage_reply, seen_bytes};
 
+// A function and no `From`, which would have to stand in the entry's own crate.
 fn type_of(entry: Entry) -> u32
     ensures { result ≡ type_of entry }
 {
@@ -29,8 +30,7 @@ fn found_type(answer: Answer) -> u32
 {
     match answer {
         Answer::Found(_, entry) => type_of(entry),
-        Answer::Absent(_) => 0,
-        Answer::Refused(_, _) => 0,
+        Answer::Absent(_) | Answer::Refused(_, _) => 0,
     }
 }
 
@@ -39,12 +39,11 @@ fn seen_type(seen: Salvage) -> u32
 {
     match seen {
         Salvage::Seen(_, entry) => type_of(entry),
-        Salvage::NotSeen => 0,
-        Salvage::Refused(_, _) => 0,
+        Salvage::NotSeen | Salvage::Refused(_, _) => 0,
     }
 }
 
-// The answer without the entry, as of every tree.
+// The answer without the entry, as of every tree; no `From`, as both types are of other crates.
 fn plain_answer(answer: Answer) -> btree::Answer
     ensures { result ≡ plain_answer answer }
 {
@@ -58,11 +57,9 @@ fn plain_answer(answer: Answer) -> btree::Answer
 fn plain_lookup(found: Lookup) -> btree::Lookup
     ensures { result ≡ plain found }
 {
-    let answer = found.answer;
-    let path = found.path;
     btree::Lookup {
-        answer: plain_answer(answer),
-        path,
+        answer: plain_answer(found.answer),
+        path: found.path,
         compared: found.compared,
     }
 }
@@ -80,44 +77,29 @@ fn plain_seen(seen: Salvage) -> btree::Salvage
 pub fn entry_numbers(found: Lookup) -> [u32; 15]
     ensures { result ≡ entry_numbers found }
 {
-    let answer = found.answer;
-    let kind = found_type(answer);
-    let n = lookup_numbers(plain_lookup(found));
-    [
-        n[0],
-        n[1],
-        n[2],
-        n[3],
-        n[4],
-        n[5],
-        n[6],
-        n[7],
-        n[8],
-        n[9],
-        n[10],
-        n[11],
-        n[12],
-        kind,
-        size_of_type(kind),
-    ]
+    let kind = found_type(found.answer);
+    let mut numbers = [0; 15];
+    numbers[..13].copy_from_slice(&lookup_numbers(plain_lookup(found)));
+    numbers[13..].copy_from_slice(&[kind, size_of_type(kind)]);
+    numbers
 }
 
 pub fn seen_numbers(seen: Salvage) -> [u32; 5]
     ensures { result ≡ seen_numbers seen }
 {
     let kind = seen_type(seen);
-    let n = salvage_reply(plain_seen(seen));
-    [n[0], n[1], n[2], kind, size_of_type(kind)]
+    let [number, node, offset] = salvage_reply(plain_seen(seen));
+    [number, node, offset, kind, size_of_type(kind)]
 }
 
 pub fn entry_bytes(image: &[u8], answer: Answer) -> [u8; 102]
     ensures { result ≡ all_bytes image.now (found_part image.now answer) }
 {
-    found_bytes(of_catalog(), image, plain_answer(answer))
+    found_bytes(of_catalog().numbers(), image, plain_answer(answer))
 }
 
 pub fn seen_entry_bytes(image: &[u8], seen: Salvage) -> [u8; 102]
     ensures { result ≡ all_bytes image.now (seen_part image.now seen) }
 {
-    seen_bytes(of_catalog(), image, plain_seen(seen))
+    seen_bytes(of_catalog().numbers(), image, plain_seen(seen))
 }

@@ -6,12 +6,16 @@ use mathlib.Core.Logic.{◌⊎◌, ⊎_elim}
 use mathlib.Core.Bool.{true, false}
 use mathlib.Core.List.Memᴰ
 use mathlib.Core.List.{List, [], ◌∷◌, reverse_aux}
+use Rattle.std.specs.Prelude.{Err}
 use Prim.Native.Nat.{ℕ, suc, ◌+◌, ◌-◌, ◌*◌, ◌≤◌, ◌<◌}
 use native.Mathlib.Decide.{dec_le, dec_lt}
 use native.Mathlib.Omega.{arith}
 use lib.ListN.{length, replicate, length-replicate, length-reverse_aux}
 use Rattle.image.specs.Set.{member, with_bit}
 use Rattle.image.proofs.Laws.{mark-length}
+use Rattle.btree.specs.declared.fault.Refusal.TheVariants.{MapChain}
+use Rattle.btree.specs.declared.fault.Fault.{Fault}
+use Rattle.btree.specs.Faults.{fault_at}
 use Rattle.btree.specs.Places.{node_place}
 use Rattle.btree.specs.Lists.{◌∈◌, along}
 use Rattle.btree.specs.Decide.{says, dec_mem}
@@ -25,7 +29,6 @@ use Rattle.btree.proofs.First.{unless-true, unless-false}
 use Rattle.btree.proofs.Along.{along-on, along-end, back-cases, back-met}
 use Rattle.frame.specs.declared.form.Form.{Form}
 use Rattle.frame.specs.Form.{layout_of}
-use Rattle.chain.specs.declared.Chain.{Chain}
 use Rattle.chain.specs.Frame.{Marks, ChainOf}
 use Rattle.chain.proofs.Marks.{marks-none, marks-more, marks-same, member-says}
 
@@ -163,6 +166,6 @@ module _ {l : Layout} {img bits : List ℕ} {nodes last left : ℕ} (p : Passed 
       (λ m w. ⊎_elim (λ e. Memᴰ.head e) (λ z. ⊎_elim (λ y. Memᴰ.tail y) (λ y. absurd (Memᴰ.not-nil y)) (back-cases p.met [] z)) (Memᴰ.cases_cons w))
       p.marks)
 
-module _ {form : Form} {img bits : List ℕ} {r : Chain} {node : ℕ} where
-  pub chain-faulty : (r.number ≡ 3) × (r.place ≡ node_place node) → chain_from (layout_of form) img [] 0 (map_nodes (layout_of form) img) ≡ fails 3 (node_place node) → ChainOf form img bits r
-  chain-faulty (n, p) e = record { verdict = rw (n, p) (sym e); marks = λ z. absurd (omega arith); count = λ z. absurd (omega arith) }
+module _ {form : Form} {img bits : List ℕ} {node : ℕ} {f : Fault} where
+  pub chain-faulty : f ≡ fault_at MapChain (node_place node) → chain_from (layout_of form) img [] 0 (map_nodes (layout_of form) img) ≡ fails 3 (node_place node) → ChainOf form img bits (Err f)
+  chain-faulty p e = record { verdict = rw p (sym e); marks = tt; count = tt }

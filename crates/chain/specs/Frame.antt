@@ -1,13 +1,13 @@
 -- What the code keeps of the header and the map chain.
 -- Assumes nothing.
-use Rattle.std.specs.Prelude.{◌≡◌, List, [], ◌∷◌, ℕ, suc, ◌*◌, ◌≤◌, ◌<◌, length}
+use Rattle.std.specs.Prelude.{◌≡◌, List, [], ◌∷◌, ℕ, suc, ◌*◌, ◌≤◌, ◌<◌, length, Result, OnOk, IfOk}
 use Rattle.image.specs.Bit.{bit_of}
 use Rattle.btree.specs.Header.{total_of, map_nodes}
-use Rattle.btree.specs.Walk.{fails}
+use Rattle.btree.specs.declared.fault.Fault.{Fault}
+use Rattle.btree.specs.Faults.{verdict_of}
 use Rattle.btree.specs.Tests.{bit_for, chain_from}
 use Rattle.frame.specs.declared.form.Form.{Form}
 use Rattle.frame.specs.Form.{layout_of, Fair}
-use Rattle.chain.specs.declared.Chain.{Chain}
 
 -- the bits set are those of these nodes
 abbrev pub Marks : List ℕ → List ℕ → Type 0
@@ -22,7 +22,7 @@ module _ (form : Form) (img : List ℕ) where
     pub enough : total_of img ≤ 8 * length bits
 
   -- what the walk along the chain gives, and the bits that it leaves
-  pub record ChainOf (bits : List ℕ) (r : Chain) : Type 0 where
-    pub verdict : fails r.number r.place ≡ chain_from (layout_of form) img [] 0 (map_nodes (layout_of form) img)
-    pub marks : r.number ≡ 0 → Marks bits (0 ∷ map_nodes (layout_of form) img)
-    pub count : r.number ≡ 0 → r.nodes ≡ suc (length (map_nodes (layout_of form) img))
+  pub record ChainOf (bits : List ℕ) (r : Result ℕ Fault) : Type 0 where
+    pub verdict : verdict_of r ≡ chain_from (layout_of form) img [] 0 (map_nodes (layout_of form) img)
+    pub marks : OnOk r (Marks bits (0 ∷ map_nodes (layout_of form) img))
+    pub count : IfOk r (λ nodes. nodes ≡ suc (length (map_nodes (layout_of form) img)))

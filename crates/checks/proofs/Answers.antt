@@ -1,6 +1,12 @@
 -- What a check answers and leaves, by its tests.
 -- Assumes nothing.
-use mathlib.Core.Path.{◌≡◌, sym, ◌∙◌}
+use mathlib.Core.Path.{◌≡◌, refl, sym, ◌∙◌}
+use mathlib.Core.Bool.{true, false}
+use native.Mathlib.Omega.{arith}
+use Rattle.std.specs.Prelude.{Result, Ok, Err, is_err, OnOk}
+use Rattle.btree.specs.declared.fault.Fault.{Fault}
+use Rattle.btree.specs.Faults.{verdict_of}
+use Rattle.btree.proofs.Faults.{some_number}
 use mathlib.Core.Logic.{◌⊎◌}
 use mathlib.Core.List.{List, ◌++◌}
 use Prim.Native.Nat.{ℕ, ◌≤◌}
@@ -16,6 +22,15 @@ use Rattle.btree.proofs.Decisions.{says-yes}
 use Rattle.btree.proofs.Ranged.{Ranged, verdict-ranged}
 use Rattle.btree.proofs.Work.{left-untouched, left-tested, leaves}
 use Rattle.btree.proofs.Checked.{checked-on, check-says}
+
+-- what a result that is an error says, and one that is none
+pub failed : (r : Result (Unit {0}) Fault) → is_err r ≡ true → (verdict_of r).number ≡ 0 → ⊥
+failed (Ok u) e z = let y : ◌≡◌ {A = ℕ} 0 1 = cc in omega arith
+failed (Err f) e z = let n = some_number f.refusal in omega arith
+
+pub passed : {P : Type 0} (r : Result (Unit {0}) Fault) → is_err r ≡ false → OnOk r P → ((verdict_of r).number ≡ 0) × P
+passed (Ok u) e p = (refl, p)
+passed (Err f) e p = let y : ◌≡◌ {A = ℕ} 0 1 = cc in absurd (omega arith)
 
 module _ (l : Layout) (f : Format) (fits : Fits l) where
   -- which numbers tests 2 to 10 give

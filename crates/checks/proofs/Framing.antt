@@ -2,8 +2,8 @@
 -- Assumes nothing.
 use mathlib.Core.Path.{◌≡◌}
 use mathlib.Core.Bool.{true}
-use mathlib.Core.List.{List, []}
-use Prim.Native.Nat.{ℕ, ◌*◌, ◌≤◌}
+use mathlib.Core.List.{List, [], ◌∷◌}
+use Prim.Native.Nat.{ℕ, suc, ◌*◌, ◌≤◌}
 use native.Mathlib.Omega.{arith}
 use lib.ListN.{length}
 use Rattle.btree.specs.Decide.{says}
@@ -13,10 +13,9 @@ use Rattle.btree.specs.Tests.{dec_header_node, chain_from}
 use Rattle.btree.proofs.Decisions.{said}
 use Rattle.btree.proofs.Chain.{chain-few, chain-rules}
 use Rattle.btree.proofs.MapBits.{some-nodes}
-use Rattle.chain.specs.declared.Chain.{Chain}
 use Rattle.frame.specs.declared.form.Form.{Form}
 use Rattle.frame.specs.Form.{key_length, layout_of}
-use Rattle.chain.specs.Frame.{Room, ChainOf}
+use Rattle.chain.specs.Frame.{Marks, Room}
 use Rattle.map.specs.Framed.{Framed}
 use Rattle.frame.proofs.Forms.{fits, nodes-few, nodes-whole}
 use Rattle.walk.specs.Outcome.{Begins}
@@ -44,9 +43,9 @@ module _ (form : Form) (img bits : List ℕ) (ready : Ready form img bits) (h : 
     framed = record { fair = ready.fair; lengths = ready.lengths; total_nodes = header.total_nodes; chain = chain }
 
     -- the chain's walk leaves as many bytes as there were
-    pub begins : (after : List ℕ) → length after ≡ length bits → (r : Chain) → ChainOf form img after r → r.number ≡ 0 → Begins form img after r.nodes
+    pub begins : (after : List ℕ) → length after ≡ length bits → (nodes : ℕ) → Marks after (0 ∷ map_nodes (layout_of form) img) → nodes ≡ suc (length (map_nodes (layout_of form) img)) → Begins form img after nodes
     unfolding view_of
-    begins after e r o z =
+    begins after e nodes marks count =
         let k = chain-few (layout_of form) img room.some chain.once chain.in_range in
         record {
           walkable =
@@ -57,7 +56,7 @@ module _ (form : Form) (img bits : List ℕ) (ready : Ready form img bits) (h : 
                 room = let q = enough in omega arith;
                 shallow = header.depth_in_range;
               };
-          marks = o.marks z;
-          count = o.count z;
-          small = let n = o.count z in let f = few in omega arith;
+          marks = marks;
+          count = count;
+          small = let f = few in omega arith;
         }

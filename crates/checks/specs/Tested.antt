@@ -1,7 +1,8 @@
 -- What tests 2 to 10 ask and give, on the bytes that the nodes of an image need.
 -- Assumes nothing.
-use Rattle.std.specs.Prelude.{◌≡◌, List, ℕ, length}
-use Rattle.btree.specs.declared.Verdict.{Verdict}
+use Rattle.std.specs.Prelude.{◌≡◌, List, ℕ, length, Result, OnOk}
+use Rattle.btree.specs.declared.fault.Fault.{Fault}
+use Rattle.btree.specs.Faults.{verdict_of}
 use Rattle.btree.specs.Tree.{reached}
 use Rattle.btree.specs.Image.{Lengths}
 use Rattle.btree.specs.Tests.{verdict}
@@ -18,11 +19,11 @@ pub record Ready (form : Form) (img bits : List ℕ) : Type 0 where
   pub enough : length bits ≡ needed (layout_of form) img
 
 -- they give the first fault, or else the bits of all nodes reached
-pub record Tested (form : Form) (img bits : List ℕ) (r : Verdict) : Type 0 where
-  pub is : r ≡ verdict (layout_of form) img (format_of form)
-  pub used : r.number ≡ 0 → Marks bits (reached (view form img))
+pub record Tested (form : Form) (img bits : List ℕ) (r : Result (Unit {0}) Fault) : Type 0 where
+  pub is : verdict_of r ≡ verdict (layout_of form) img (format_of form)
+  pub used : OnOk r (Marks bits (reached (view form img)))
 
 -- with the bytes as a call leaves them
-pub record Settled (form : Form) (img bits : List ℕ) (r : Verdict) : Type 0 where
-  pub is : r ≡ verdict (layout_of form) img (format_of form)
-  pub left : bits ≡ needed_left (layout_of form) img (format_of form) r.number
+pub record Settled (form : Form) (img bits : List ℕ) (r : Result (Unit {0}) Fault) : Type 0 where
+  pub is : verdict_of r ≡ verdict (layout_of form) img (format_of form)
+  pub left : bits ≡ needed_left (layout_of form) img (format_of form) (verdict_of r).number

@@ -3,6 +3,7 @@ ghost use Rattle.std.specs.Prelude.{◌≡◌};
 ghost use Rattle.coverings.specs.Answers.{mapped_to};
 
 use btree::Place;
+use btree::fault::Refusal;
 
 // Which of the two images an answer concerns.
 #[derive(Clone, Copy)]
@@ -19,6 +20,7 @@ pub struct Covering {
     pub start: usize,
 }
 
+// One enum with the data of each case, like the answer of a lookup, as `BlockSays` has it.
 #[derive(Clone, Copy)]
 pub enum Mapping {
     // The covering record, and the volume block.
@@ -32,8 +34,8 @@ pub fn mapped_to(covering: Covering, volume: u64) -> Mapping
     ensures { result ≡ mapped_to covering volume }
 {
     if volume > 65_535 {
-        let source = covering.source;
-        return Mapping::Refused(source, 18, Place { node: 0, offset: 0 });
+        let place = Place { node: 0, offset: 0 };
+        return Mapping::Refused(covering.source, Refusal::VolumeBlock.number(), place);
     }
     Mapping::Mapped(covering, volume as u32)
 }

@@ -3,10 +3,11 @@ ghost use Rattle.std.specs.Prelude.{◌≡◌, length};
 ghost use Rattle.btree.specs.Decide.{says};
 ghost use Rattle.extent_keys.specs.Key.{Lawful};
 ghost use Rattle.extents.specs.Reader.{checked, Leaves};
-ghost use Rattle.coverings.specs.Covered.{first_extents, first_start, dec_covers, after_extents, in_extents, in_file, no_file, in_entry};
+ghost use Rattle.coverings.specs.Covered.{first_extents, first_start, dec_covers, after_extents, in_extents, in_file, no_file, uncovered, in_entry};
 
 use super::answers::{Covering, Mapping, Source, mapped_to};
 use btree::Place;
+use btree::fault::Refusal;
 use catalog_entries::{Entry, File};
 use extent_data::ExtentData;
 use extent_data::pairs::{block_count, counted_off};
@@ -17,12 +18,10 @@ pub fn after_check(extents: &[u8], work: &mut [u8], answer: Mapping) -> Mapping
     ensures equal { result ≡ after_extents extents.now (length work.old) answer }
     ensures leaves { Leaves extents.now (checked extents.now (length work.old)).number work.old work.new }
 {
-    let t = extents::check(extents, work);
-    if t.number != 0 {
-        let place = t.place;
-        return Mapping::Refused(Source::Extents, t.number, place);
+    match extents::check(extents, work) {
+        Ok(()) => answer,
+        Err(fault) => Mapping::Refused(Source::Extents, fault.refusal.number(), fault.place),
     }
-    answer
 }
 
 // The first three extents of a fork.
@@ -30,21 +29,17 @@ fn first_extents(file: File, fork: u8) -> ExtentData
     ensures { result ≡ first_extents file fork }
 {
     if fork == 0 {
-        let data_fork = file.data_fork;
-        return data_fork.extents;
+        file.data_fork.extents
+    } else {
+        file.resource_fork.extents
     }
-    let resource_fork = file.resource_fork;
-    resource_fork.extents
 }
 
 // Where they start in the file record's data.
 fn first_start(fork: u8) -> usize
     ensures { result ≡ first_start fork }
 {
-    if fork == 0 {
-        return 74;
-    }
-    86
+    if fork == 0 { 74 } else { 86 }
 }
 
 // Whether a record of the extents overflow file covers the block.
@@ -63,6 +58,14 @@ fn covers(found: ExtentRecord, file: u32, fork: u8, file_block: u16) -> bool
     (file_block as u64) < (found.start as u64) + block_count(found.extents)
 }
 
+// What no record covers.
+fn uncovered() -> Mapping
+    ensures { result ≡ uncovered }
+{
+    let place = Place { node: 0, offset: 0 };
+    Mapping::Refused(Source::Extents, Refusal::Uncovered.number(), place)
+}
+
 // By the record of the extents overflow file with the highest key not above the block's.
 fn in_extents(extents: &[u8], work: &mut [u8], file: u32, fork: u8, file_block: u16) -> Mapping
     requires { Lawful fork }
@@ -72,7 +75,7 @@ fn in_extents(extents: &[u8], work: &mut [u8], file: u32, fork: u8, file_block: 
     match extents::floor(extents, file, fork, file_block, work) {
         Floor::At(place, record) => {
             if !covers(record, file, fork, file_block) {
-                return Mapping::Refused(Source::Extents, 17, Place { node: 0, offset: 0 });
+                return uncovered();
             }
             let start = extents::data_at(extents, place);
             let covering = Covering {
@@ -85,7 +88,7 @@ fn in_extents(extents: &[u8], work: &mut [u8], file: u32, fork: u8, file_block: 
                 counted_off(record.extents, (file_block as u32) - record.start),
             )
         }
-        Floor::Nowhere => Mapping::Refused(Source::Extents, 17, Place { node: 0, offset: 0 }),
+        Floor::Nowhere => uncovered(),
         Floor::Refused(number, place) => Mapping::Refused(Source::Extents, number, place),
     }
 }
@@ -121,7 +124,8 @@ fn in_file(
 fn no_file() -> Mapping
     ensures { result ≡ no_file }
 {
-    Mapping::Refused(Source::Catalog, 24, Place { node: 0, offset: 0 })
+    let place = Place { node: 0, offset: 0 };
+    Mapping::Refused(Source::Catalog, Refusal::NoFile.number(), place)
 }
 
 // By what stands under the catalog key: a record that is no file covers no block.

@@ -8,6 +8,7 @@ ghost use Rattle.extent_data.specs.Data.{extent_data_at};
 
 use image::bytes::be16;
 
+// Six fields and no array of pairs: the definitions and theorems name each of the six.
 #[derive(Clone, Copy)]
 pub struct ExtentData {
     pub block1: u32,
@@ -23,18 +24,12 @@ pub fn extent_data_at(image: &[u8], at: usize) -> ExtentData
     requires { at < 400000000000000 }
     ensures { result ≡ extent_data_at image.now at }
 {
-    let block1 = be16(image, at);
-    let count1 = be16(image, at + 2);
-    let block2 = be16(image, at + 4);
-    let count2 = be16(image, at + 6);
-    let block3 = be16(image, at + 8);
-    let count3 = be16(image, at + 10);
     ExtentData {
-        block1,
-        count1,
-        block2,
-        count2,
-        block3,
-        count3,
+        block1: be16(image, at),
+        count1: be16(image, at + 2),
+        block2: be16(image, at + 4),
+        count2: be16(image, at + 6),
+        block3: be16(image, at + 8),
+        count3: be16(image, at + 10),
     }
 }

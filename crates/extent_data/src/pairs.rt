@@ -8,22 +8,22 @@ use super::ExtentData;
 pub fn block_count(extents: ExtentData) -> u64
     ensures { (result ≡ block_count extents) × (result < 12884901888) }
 {
-    (extents.count1 as u64) + (extents.count2 as u64) + (extents.count3 as u64)
+    u64::from(extents.count1) + u64::from(extents.count2) + u64::from(extents.count3)
 }
 
 // The volume block of one of them, by its number from 0: the pairs counted off in order.
 pub fn counted_off(extents: ExtentData, number: u32) -> u64
     ensures { result ≡ counted_off extents number }
 {
-    let number = number as u64;
-    let count1 = extents.count1 as u64;
+    let number = u64::from(number);
+    let count1 = u64::from(extents.count1);
     if number < count1 {
-        return (extents.block1 as u64) + number;
+        return u64::from(extents.block1) + number;
     }
     let rest = number - count1;
-    let count2 = extents.count2 as u64;
+    let count2 = u64::from(extents.count2);
     if rest < count2 {
-        return (extents.block2 as u64) + rest;
+        return u64::from(extents.block2) + rest;
     }
-    (extents.block3 as u64) + (rest - count2)
+    u64::from(extents.block3) + (rest - count2)
 }

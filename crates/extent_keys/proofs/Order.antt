@@ -1,20 +1,25 @@
 -- The order of keys is that of their numbers.
 -- Assumes nothing.
-use mathlib.Core.Path.{◌≡◌, sym, ◌∙◌}
+use mathlib.Core.Path.{◌≡◌, refl, sym, ap, ◌∙◌}
 use mathlib.Core.Logic.{◌↔◌}
 use mathlib.Core.List.{List}
 use Prim.Native.Nat.{ℕ, suc, ◌+◌, ◌*◌, ◌/◌, ◌%◌, ◌<◌, ◌≤◌}
 use native.Mathlib.Nat.{mul-le-mul_right, suc-mul}
 use native.Mathlib.Omega.{arith}
 use lib.IntN.{ℤ, pos}
+use lib.ListN.{get_or}
+use Rattle.std.proofs.Common.{Ordering, Less, Equal, Greater, nat_cmp}
+use Rattle.std.specs.Ordering.{ordering_then}
+use Rattle.std.proofs.lemmas.Cmp.{ranked as cmp_cases}
+use Rattle.image.proofs.Laws.{be16-copied, be32-copied}
 use Rattle.image.proofs.Words.{Bytes}
 use Rattle.image.specs.Bytes.{be16_at, be32_at}
 use Rattle.btree.specs.Ranked.{ranked}
-use Rattle.btree.proofs.Ranked.{ranked-same, ranked-zero, by_field}
+use Rattle.btree.proofs.Ranked.{ranked-below, ranked-above, ranked-same, ranked-zero, by_field}
 use Rattle.frame.specs.declared.form.Form.{Form}
 use Rattle.frame.proofs.Forms.{if-zero, if-not, if-either}
 use Rattle.extent_keys.specs.declared.key.Key.{Key}
-use Rattle.extent_keys.specs.Key.{hfs_key_at, plus_key_at, key_at, compared, rank, packed, IsShort, unpacked}
+use Rattle.extent_keys.specs.Key.{hfs_key_at, plus_key_at, key_at, number, compared, rank, packed, IsShort, unpacked}
 
 -- the fields of a key in an image, and of one that is asked for
 pub record InRange (k : Key) : Type 0 where
@@ -56,20 +61,31 @@ pub by-numbers : (a b : Key) (z : ℤ) → InRange a → InRange b → compared 
     → (z ≡ compared a b) × ((z ≡ ranked (rank a) (rank b) (pos 0)) × (IsShort a → IsShort b → z ≡ ranked (packed a) (packed b) (pos 0)))
 by-numbers a b z ra rb e = (sym e, (sym e ∙ rank-order a b ra rb, λ sa sb. sym e ∙ packed-order a b ra rb sa sb))
 
+-- the number of an answer
+number-cmp : (a b : ℕ) → number (nat_cmp a b) ≡ ranked a b (pos 0)
+number-cmp a b = go (nat_cmp a b) refl
+  where
+    go : (r : Ordering) → r ≡ nat_cmp a b → number r ≡ ranked a b (pos 0)
+    go Less e = let h = cmp_cases a b Less e in sym (ranked-below a b (pos 0) h)
+    go Equal e = let h = cmp_cases a b Equal e in sym (ranked-same a b (pos 0) h)
+    go Greater e = let h = cmp_cases a b Greater e in sym (ranked-above a b (pos 0) h)
+
+number-then : (a b : ℕ) (o : Ordering) → number (ordering_then (nat_cmp a b) o) ≡ ranked a b (number o)
+number-then a b o = go (nat_cmp a b) refl
+  where
+    go : (r : Ordering) → r ≡ nat_cmp a b → number (ordering_then r o) ≡ ranked a b (number o)
+    go Less e = let h = cmp_cases a b Less e in sym (ranked-below a b (number o) h)
+    go Equal e = let h = cmp_cases a b Equal e in sym (ranked-same a b (number o) h)
+    go Greater e = let h = cmp_cases a b Greater e in sym (ranked-above a b (number o) h)
+
 -- the first field in which the keys differ decides
-module _ (a b : Key) where
-  pub by-file : (z : ℤ) → ((x : ℤ) → ranked a.file b.file x ≡ z) → compared a b ≡ z
-  unfolding compared
-  by-file z h = h _
-
-  module _ (f : a.file ≡ b.file) where
-    pub by-fork : (z : ℤ) → ((x : ℤ) → ranked a.fork b.fork x ≡ z) → compared a b ≡ z
-    unfolding compared
-    by-fork z h = ranked-same a.file b.file _ f ∙ h _
-
-    pub by-start : (z : ℤ) → a.fork ≡ b.fork → ranked a.start b.start (pos 0) ≡ z → compared a b ≡ z
-    unfolding compared
-    by-start z g h = ranked-same a.file b.file _ f ∙ ranked-same a.fork b.fork _ g ∙ h
+pub by-fields : (a b : Key) (r : Ordering) → r ≡ ordering_then (nat_cmp a.file b.file) (ordering_then (nat_cmp a.fork b.fork) (nat_cmp a.start b.start))
+    → compared a b ≡ number r
+unfolding compared
+by-fields a b r e =
+    sym
+    (ap number e ∙ number-then _ _ _ ∙ ap (ranked a.file b.file)
+    (number-then _ _ _ ∙ ap (ranked a.fork b.fork) (number-cmp _ _)))
 
 -- keys compare as 0 exactly when their numbers are equal
 pub rank_same : (a b : Key) → InRange a → InRange b → (compared a b ≡ pos 0) ↔ (rank a ≡ rank b)
@@ -83,6 +99,18 @@ module _ (form : Form) (img : List ℕ) (at : ℕ) where
   pub key-plus : (form.edition ≡ 0 → ⊥) → key_at form img at ≡ plus_key_at img at
   unfolding key_at
   key-plus h = if-not form.edition _ _ h
+
+-- a key stays the same where its bytes are copied
+module _ (img : List ℕ) (at : ℕ) (bytes : List ℕ) (same : (k : ℕ) → k < 12 → get_or bytes k 0 ≡ get_or img (at + k) 0) where
+  hfs-copied : hfs_key_at bytes 0 ≡ hfs_key_at img at
+  hfs-copied = rw (be32-copied bytes img at 12 same 2 (omega arith), same 1 (omega arith), be16-copied bytes img at 12 same 6 (omega arith))
+
+  plus-copied : plus_key_at bytes 0 ≡ plus_key_at img at
+  plus-copied = rw (be32-copied bytes img at 12 same 4 (omega arith), same 2 (omega arith), be32-copied bytes img at 12 same 8 (omega arith))
+
+  pub key-copied : (form : Form) → key_at form bytes 0 ≡ key_at form img at
+  unfolding key_at
+  key-copied form = rw (hfs-copied, plus-copied)
 
 module _ (form : Form) (img : List ℕ) (b : Bytes img) (at : ℕ) where
   hfs-range : InRange (hfs_key_at img at)

@@ -1,6 +1,8 @@
 -- The key of an extents record, its order, and its packed number.
 -- Assumes nothing.
-use Rattle.std.specs.Prelude.{◌≡◌, ◌⊎◌, List, ℕ, ◌+◌, ◌*◌, ◌/◌, ◌%◌, ◌<◌, ℤ, pos, get_or}
+use Rattle.std.specs.Prelude.{◌≡◌, ◌⊎◌, List, ℕ, ◌+◌, ◌*◌, ◌/◌, ◌%◌, ◌<◌, ℤ, pos, negsuc, get_or}
+use Rattle.std.specs.declared.cmp.Ordering.{Ordering}
+use Rattle.std.specs.Ordering.{match_ordering}
 use Rattle.std.proofs.Math.Logic.Dec
 use Rattle.std.proofs.Math.Decide.{ℕ_discrete, dec_lt}
 use Rattle.image.specs.Bytes.{be16_at, be32_at}
@@ -36,6 +38,10 @@ asked file fork start = record { file = file; fork = fork; start = start }
 -- "Order: file number, then fork as an unsigned byte, then start block. A comparison answers .. -1, 0 or 1."
 unfoldable pub compared : Key → Key → ℤ
 compared a b = ranked a.file b.file (ranked a.fork b.fork (ranked a.start b.start (pos 0)))
+
+-- the number that an answer stands for
+abbrev pub number : Ordering → ℤ
+number o = match_ordering o (negsuc 0) (pos 0) (pos 1)
 
 -- a key of either edition as one number, in whose order keys are: file number, fork byte, and four bytes for the start block
 unfoldable pub rank : Key → ℕ

@@ -2,14 +2,18 @@
 ghost use Rattle.std.specs.Prelude.{◌≡◌, ◌+◌, ◌<◌, ◌≤◌, eqb, ltb, pos, length};
 ghost use Rattle.btree.specs.Decide.{says};
 ghost use Rattle.btree.specs.Ranked.{ranked};
-ghost use Rattle.extent_keys.specs.Key.{dec_lawful, key_at, asked, compared, rank, rank_of, packed, IsShort, unpacked, dec_key};
+ghost use Rattle.extent_keys.specs.Key.{number, dec_lawful, key_at, asked, compared, rank, rank_of, packed, IsShort, unpacked, dec_key};
 
-use frame::form::Form;
-use image::bytes::{be16, be32, byte_at};
-use image::within::{be16_in, be32_in, byte_in};
+use frame::form::{Edition, Form};
+use image::bytes::bytes_from;
+use image::within::{be16_in, be32_in};
+use std::cmp::Ordering;
+
+// 2 to the 56: no key's packed number reaches it.
+const KEY_LIMIT: u64 = 72_057_594_037_927_936;
 
 // What a record is found by.
-#[derive(Clone, Copy)]
+#[derive(Clone, Copy, PartialEq, Eq, PartialOrd, Ord)]
 pub struct Key {
     pub file: u32,
     pub fork: u8,
@@ -17,54 +21,33 @@ pub struct Key {
 }
 
 // A key as it is compared: file number and fork byte as one number, then the start block.
-#[derive(Clone, Copy)]
+#[derive(Clone, Copy, PartialEq, Eq, PartialOrd, Ord)]
 pub struct SortKey {
     pub owner: u64,
     pub start: u32,
 }
 
-// -1, 0 or 1: file number, then fork as an unsigned byte, then start block.
-pub fn compare(a: Key, b: Key) -> i32
-    ensures equal { result ≡ compared a b }
-    ensures order { result ≡ ranked (rank a) (rank b) (pos 0) }
-    ensures packed { IsShort a → IsShort b → result ≡ ranked (packed a) (packed b) (pos 0) }
+// File number, then fork as an unsigned byte, then start block: the order of the fields.
+pub fn compare(a: Key, b: Key) -> Ordering
+    ensures equal { number result ≡ compared a b }
+    ensures order { number result ≡ ranked (rank a) (rank b) (pos 0) }
+    ensures packed { IsShort a → IsShort b → number result ≡ ranked (packed a) (packed b) (pos 0) }
 {
-    if a.file < b.file {
-        return -1;
-    }
-    if b.file < a.file {
-        return 1;
-    }
-    if a.fork < b.fork {
-        return -1;
-    }
-    if b.fork < a.fork {
-        return 1;
-    }
-    if a.start < b.start {
-        return -1;
-    }
-    if b.start < a.start {
-        return 1;
-    }
-    0
+    a.cmp(&b)
 }
 
-// The fork bytes 00 and FF are lawful.
+// The fork bytes 00 and FF are lawful: a byte and no enum, as the C interface and packed keys have it.
 pub fn is_lawful(fork: u32) -> bool
     ensures { result ≡ says (dec_lawful fork) }
 {
-    if fork == 0 {
-        return true;
-    }
-    fork == 255
+    fork == 0 || fork == 255
 }
 
 // An asked key, to be compared.
 pub fn sort_key(file: u32, fork: u8, start: u32) -> SortKey
     ensures { rank_of result ≡ rank (asked file fork start) }
 {
-    let owner = (file as u64) * 256 + (fork as u64);
+    let owner = u64::from(file) * 256 + u64::from(fork);
     SortKey { owner, start }
 }
 
@@ -72,10 +55,7 @@ pub fn sort_key(file: u32, fork: u8, start: u32) -> SortKey
 pub fn is_key(number: u64) -> bool
     ensures { result ≡ says (dec_key number) }
 {
-    if number >= 72_057_594_037_927_936 {
-        return false;
-    }
-    is_lawful((number / 65_536 % 256) as u32)
+    number < KEY_LIMIT && is_lawful((number / 65_536 % 256) as u32)
 }
 
 // The key of a packed number, to be compared.
@@ -90,21 +70,13 @@ pub fn unpack(number: u64) -> SortKey
 pub fn is_below(a: SortKey, b: SortKey) -> bool
     ensures { result ≡ ltb (rank_of a) (rank_of b) }
 {
-    // One of two comparisons, so that no branch is taken on the owners.
-    if a.start < b.start {
-        a.owner <= b.owner
-    } else {
-        a.owner < b.owner
-    }
+    a < b
 }
 
 pub fn is_same(a: SortKey, b: SortKey) -> bool
     ensures { result ≡ eqb (rank_of a) (rank_of b) }
 {
-    if a.owner != b.owner {
-        return false;
-    }
-    a.start == b.start
+    a == b
 }
 
 // The key that stands at a byte of the image, which has it whole: no key is longer than 12 bytes.
@@ -112,37 +84,18 @@ pub fn key_in(form: Form, image: &[u8], at: usize) -> SortKey
     requires { at + 12 ≤ length image.now }
     ensures { rank_of result ≡ rank (key_at form image.now at) }
 {
-    if form.edition == 0 {
-        let file = be32_in(image, at + 2) as u64;
-        let fork = byte_in(image, at + 1) as u64;
-        let start = be16_in(image, at + 6);
-        let owner = file * 256 + fork;
-        return SortKey { owner, start };
+    match form.edition() {
+        Edition::Hfs => sort_key(
+            be32_in(image, at + 2),
+            image[at + 1],
+            be16_in(image, at + 6),
+        ),
+        Edition::HfsPlus => sort_key(
+            be32_in(image, at + 4),
+            image[at + 2],
+            be32_in(image, at + 8),
+        ),
     }
-    let file = be32_in(image, at + 4) as u64;
-    let fork = byte_in(image, at + 2) as u64;
-    let start = be32_in(image, at + 8);
-    let owner = file * 256 + fork;
-    SortKey { owner, start }
-}
-
-// The key that stands at a byte of the image, where this may end before the key does.
-fn key_past(form: Form, image: &[u8], at: usize) -> SortKey
-    requires { at < 1000000000000000 }
-    ensures { rank_of result ≡ rank (key_at form image.now at) }
-{
-    if form.edition == 0 {
-        let file = be32(image, at + 2) as u64;
-        let fork = byte_at(image, at + 1) as u64;
-        let start = be16(image, at + 6);
-        let owner = file * 256 + fork;
-        return SortKey { owner, start };
-    }
-    let file = be32(image, at + 4) as u64;
-    let fork = byte_at(image, at + 2) as u64;
-    let start = be32(image, at + 8);
-    let owner = file * 256 + fork;
-    SortKey { owner, start }
 }
 
 // The key that stands at a byte of the image: one test for all its bytes.
@@ -150,10 +103,8 @@ pub fn key_at(form: Form, image: &[u8], at: usize) -> SortKey
     requires { at < 1000000000000000 }
     ensures { rank_of result ≡ rank (key_at form image.now at) }
 {
-    if image.len() >= 12 {
-        if at <= image.len() - 12 {
-            return key_in(form, image, at);
-        }
+    if image.len() >= 12 && at <= image.len() - 12 {
+        return key_in(form, image, at);
     }
-    key_past(form, image, at)
+    key_in(form, &bytes_from::<12>(image, at), 0)
 }

@@ -3,7 +3,7 @@
 use mathlib.Core.Path.{◌≡◌, ap}
 use mathlib.Core.Logic.{◌≢◌, ◌↔◌}
 use Prim.Native.Nat.{ℕ, suc, ◌+◌, ◌*◌, ◌≤◌, ◌<◌}
-use native.Mathlib.Nat.{suc-mul, mul-le-mul, mul-le-mul_right, mul-lt-mul_of_pos_right}
+use native.Mathlib.Nat.{suc-mul, mul-le-mul_right, mul-lt-mul_of_pos_right}
 use native.Mathlib.Numerals.{add-one}
 use native.Mathlib.Omega.{arith}
 use native.Mathlib.Decide.{ℕ_discrete, dec_lt}
@@ -62,10 +62,6 @@ module _ (form : Form) where
     -- two records of a node that start at one byte are one
     pub start-once : (i j : ℕ) → start_in form kind i ≡ start_in form kind j → i ≡ j
     start-once i j e = times-once i j (record_size form kind) size-pos (omega arith)
-
--- the bytes of records are few
-pub records-small : (i s m k : ℕ) → i ≤ m → s ≤ k → i * s ≤ m * k
-records-small i s m k a b = mul-le-mul a b
 
 -- "a leaf holds 1 to 22 and an index node 1 to 35": as many as fit in an HFS node
 pub hfs-leaf-holds : (c : ℕ) → Holds hfs leaf_kind c ↔ (c ≤ 22)

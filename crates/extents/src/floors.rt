@@ -17,6 +17,7 @@ pub struct ExtentRecord {
     pub extents: ExtentData,
 }
 
+// What a floor is: one enum with the data of each case, like the answer of a lookup, as `FloorSays` and what is above have it.
 #[derive(Clone, Copy)]
 pub enum Floor {
     // Where the record starts, and what it says.
@@ -44,7 +45,7 @@ fn record_of(image: &[u8], place: Place) -> ExtentRecord
     }
 }
 
-// What the descent answers, with the record.
+// What the descent answers, with the record: no `From`, as the record is read in the image.
 pub fn floored_as(image: &[u8], answer: Answer) -> Floor
     ensures { result ≡ floored_as image.now answer }
 {

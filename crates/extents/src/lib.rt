@@ -4,6 +4,7 @@
 pub mod floors;
 
 ghost use Rattle.std.specs.Prelude.{◌≡◌, ◌<◌, length};
+ghost use Rattle.btree.specs.Faults.{verdict_of};
 ghost use Rattle.btree.specs.Numbers.{lookup_reply};
 ghost use Rattle.extent_keys.specs.Key.{asked};
 ghost use Rattle.extents.specs.Reader.{checked, CheckSays, Leaves, looked_up, data_part, found_part, salvaged, seen_part};
@@ -11,18 +12,19 @@ ghost use Rattle.extents.specs.Demands.{LookupSays, SalvageSays, PartOf};
 ghost use Rattle.extents.specs.Many.{many_answer, many_results, ManySays};
 ghost use Rattle.extents.specs.Floor.{floored, floor_reply, FloorSays};
 
-use btree::{Lookup, Place, Salvage, Verdict, at_node};
+use btree::fault::{Fault, Refusal};
+use btree::{Lookup, Place, Salvage};
 use extent_keys::key::{is_lawful, sort_key};
 use floors::{Floor, floored_as};
 use frame::form::of_hfs;
 use image::part::no_part;
 use search::rows::fill;
 
-// The first fault in the order of tests, number and place; 16 where too few bytes are lent; 0 at node 0, offset 0 for a sound image.
-pub fn check(image: &[u8], work: &mut [u8]) -> Verdict
-    ensures equal { result ≡ checked image.now (length work.old) }
-    ensures says { CheckSays image.now (length work.old) result }
-    ensures leaves { Leaves image.now result.number work.old work.new }
+// The first fault in the order of tests; that of the working bytes where too few are lent; none for a sound image.
+pub fn check(image: &[u8], work: &mut [u8]) -> Result<(), Fault>
+    ensures equal { verdict_of result ≡ checked image.now (length work.old) }
+    ensures says { CheckSays image.now (length work.old) (verdict_of result) }
+    ensures leaves { Leaves image.now (verdict_of result).number work.old work.new }
 {
     editions::check(0, 512, image, work)
 }
@@ -52,20 +54,23 @@ pub fn lookup_part<'a>(
 
 // What stands under each of many packed keys: the rows are measured first, then the whole image is judged once, and only then the tree is searched.
 // A result is the byte of the image where the data starts, 0 for absent, 1 for a number that is no key.
-pub fn lookup_many(image: &[u8], keys: &[u64], results: &mut [u32], work: &mut [u8]) -> Verdict
-    ensures equal { result ≡ many_answer image.now keys.now results.old (length work.old) }
+pub fn lookup_many(
+    image: &[u8],
+    keys: &[u64],
+    results: &mut [u32],
+    work: &mut [u8],
+) -> Result<(), Fault>
+    ensures equal { verdict_of result ≡ many_answer image.now keys.now results.old (length work.old) }
     ensures written { results.new ≡ many_results image.now keys.now results.old (length work.old) }
-    ensures says { ManySays image.now keys.now results.old results.new (length work.old) result }
-    ensures leaves { Leaves image.now result.number work.old work.new }
+    ensures says { ManySays image.now keys.now results.old results.new (length work.old) (verdict_of result) }
+    ensures leaves { Leaves image.now (verdict_of result).number work.old work.new }
 {
     if results.len() < keys.len() {
-        return at_node(15, 0);
+        return Err(Fault::at_node(Refusal::FewResults, 0));
     }
-    let t = check(image, work);
-    if t.number == 0 {
-        fill(image, keys, results);
-    }
-    t
+    check(image, work)?;
+    fill(image, keys, results);
+    Ok(())
 }
 
 // The leaf record with the highest key not above the asked one: the fork byte and the whole image are judged first, as for a lookup.
@@ -75,16 +80,16 @@ pub fn floor(image: &[u8], file: u32, fork: u8, start: u16, work: &mut [u8]) -> 
     ensures leaves { Leaves image.now (floor_reply result).number work.old work.new }
 {
     if !is_lawful(fork as u32) {
-        return Floor::Refused(11, Place { node: 0, offset: 0 });
+        return Floor::Refused(Refusal::AskedKey.number(), Place { node: 0, offset: 0 });
     }
-    let t = check(image, work);
-    if t.number != 0 {
-        let place = t.place;
-        return Floor::Refused(t.number, place);
+    match check(image, work) {
+        Ok(()) => {
+            let key = sort_key(file, fork, start as u32);
+            let answer = search::descent::floor(of_hfs(), image, key, no_part(image));
+            floored_as(image, answer)
+        }
+        Err(fault) => Floor::Refused(fault.refusal.number(), fault.place),
     }
-    let key = sort_key(file, fork, start as u32);
-    let answer = search::descent::floor(of_hfs(), image, key, no_part(image));
-    floored_as(image, answer)
 }
 
 // The byte of the image where the data starts of the leaf record at a place, as a lookup answers it.

@@ -3,7 +3,6 @@
 use mathlib.Core.Path.{◌≡◌, refl, sym, ap, subst, ◌∙◌}
 use mathlib.Core.List.{List}
 use Prim.Native.Nat.{ℕ, suc, ◌+◌, ◌-◌, ◌*◌, ◌≤◌, ◌<◌}
-use native.Mathlib.Nat.{mul-le-mul_right}
 use native.Mathlib.Decide.{ℕ_discrete}
 use native.Mathlib.Omega.{arith}
 use lib.ListN.{get_or}
@@ -26,16 +25,6 @@ use Rattle.order.proofs.Rising.{none-wrong}
 use Rattle.fast_records.specs.Keyed.{packed_at, Keyed}
 use Rattle.fast_nodes.specs.Passes.{Recorded, LeafHead, Passes, LeafPasses}
 use Rattle.fast_nodes.proofs.Ranks.{below-rank, same_rank}
-
-pub form-is : (form : Form) → form.edition ≡ 0 → form.tree ≡ 0 → form.size ≡ 512 → form ≡ hfs
-form-is form e t s =
-    ap (λ (x : ℕ). record { edition = x; tree = form.tree; size = form.size }) e
-    ∙ ap (λ (x : ℕ). record { edition = 0; tree = x; size = form.size }) t
-    ∙ ap (λ (x : ℕ). record { edition = 0; tree = 0; size = x }) s
-
--- no more records than a node holds
-pub few-records : (c most size : ℕ) → c ≤ most → most * size + 2 * most ≤ 496 → c * size + 2 * c ≤ 496
-few-records c most size h l = let m : c * size ≤ most * size = mul-le-mul_right size h in omega arith
 
 pub leaf-size : record_size hfs leaf_kind ≡ 20
 unfolding key_size data_size record_size ℕ_discrete

@@ -1,5 +1,5 @@
 // A leaf, as the walk comes to it and as salvage does.
-ghost use Rattle.std.specs.Prelude.{◌≡◌, true, ◌+◌, ◌<◌, ◌≤◌, length};
+ghost use Rattle.std.specs.Prelude.{◌≡◌, true, ◌+◌, ◌<◌, ◌≤◌, length, IfSome, OnSome};
 ghost use Rattle.image.specs.Bytes.{be64_at};
 ghost use Rattle.btree.specs.Decide.{says};
 ghost use Rattle.btree.specs.Header.{count_of};
@@ -9,7 +9,7 @@ ghost use Rattle.order.specs.Whole.{WholeLeaf, dec_whole_leaf};
 ghost use Rattle.fast_records.specs.Keyed.{Keyed};
 ghost use Rattle.fast_nodes.specs.Passes.{LeafHead, LeafPasses};
 
-use super::records::{is_hfs, records_right};
+use super::records::{LEAF, is_hfs, records_right};
 use fast_records::{is_full, is_keyed};
 use frame::form::Form;
 use frame::node::start_of;
@@ -34,40 +34,35 @@ fn is_keyed_leaf(image: &[u8], start: usize, c: u32, raw: u64, top: u64) -> bool
     requires { (start + 512 ≤ length image.now) × (raw ≡ be64_at image.now (start + 14)) }
     ensures { result ≡ true → (0 < c) × (c ≤ 22) × Keyed image.now start 20 c top }
 {
-    if c == 22 {
-        return is_full(image, start, raw, top);
+    match c {
+        22 => is_full(image, start, raw, top),
+        1..=21 => is_keyed(image, start, 20, c, raw, top),
+        _ => false,
     }
-    if c == 0 {
-        return false;
-    }
-    if c > 22 {
-        return false;
-    }
-    is_keyed(image, start, 20, c, raw, top)
 }
 
 // How many records a leaf has that surely passes tests 5 and 6 and has this back link, where its pointer key has these eight bytes and its keys are below
-// `top`; 0 says nothing.
-pub fn records_of_passing(image: &[u8], node: u32, before: u32, raw: u64, top: u64) -> u32
+// `top`; None says nothing.
+pub fn records_of_passing(image: &[u8], node: u32, before: u32, raw: u64, top: u64) -> Option<u32>
     requires { NodeIn hfs image.now node }
-    ensures passes { 0 < result → LeafPasses image.now node before raw top }
-    ensures count { (0 < result → result ≡ count_of (layout_of hfs) image.now node) × (result < 65536) }
+    ensures passes { OnSome result (LeafPasses image.now node before raw top) }
+    ensures count { IfSome result (λ c. (c ≡ count_of (layout_of hfs) image.now node) × (c < 65536)) }
 {
     let start = (node as usize) * 512;
     if be32_in(image, start + 4) != before {
-        return 0;
+        return None;
     }
     if be64_in(image, start + 14) != raw {
-        return 0;
+        return None;
     }
     if !is_leaf(image, start) {
-        return 0;
+        return None;
     }
     let c = be16_in(image, start + 10);
     if !is_keyed_leaf(image, start, c, raw, top) {
-        return 0;
+        return None;
     }
-    c
+    Some(c)
 }
 
 // A leaf that is whole by itself.
@@ -80,7 +75,7 @@ fn surely_whole(form: Form, image: &[u8], node: u32) -> bool
     }
     let start = start_of(form, node);
     let raw = be64_in(image, start + 14);
-    records_right(image, start, 255, 20, 22, raw, 18_446_744_073_709_551_615)
+    records_right(image, start, LEAF, raw, u64::MAX)
 }
 
 // A node counts whatever its level and its links.

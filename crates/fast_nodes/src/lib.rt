@@ -1,4 +1,4 @@
-// Tests of an HFS node that say only that it surely passes: an answer of false says nothing.
+// Tests of an HFS node that say only that it surely passes: an answer of false or None says nothing; `is_whole` alone answers either way.
 #![tactic(auto)]
 
 pub mod leaf;

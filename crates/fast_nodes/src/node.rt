@@ -5,7 +5,7 @@ ghost use Rattle.frame.specs.Inside.{NodeIn};
 ghost use Rattle.order.specs.Bound.{bound};
 ghost use Rattle.fast_nodes.specs.Passes.{Passes};
 
-use super::records::{is_hfs, records_right};
+use super::records::{INDEX, LEAF, is_hfs, records_right};
 use fast_records::keys::packed_before;
 use frame::form::Form;
 use frame::node::start_of;
@@ -46,9 +46,9 @@ pub fn node_passes(form: Form, image: &[u8], node: u32, above: u32, low: usize, 
     if level + above != be16(image, 14) {
         return false;
     }
-    let top = packed_before(image, high);
+    let top = packed_before(image, high).unwrap_or(u64::MAX);
     if level == 1 {
-        return records_right(image, start, 255, 20, 22, raw, top);
+        return records_right(image, start, LEAF, raw, top);
     }
-    records_right(image, start, 0, 12, 35, raw, top)
+    records_right(image, start, INDEX, raw, top)
 }

@@ -3,8 +3,6 @@
 use mathlib.Core.Path.{◌≡◌, ◌∙◌}
 use mathlib.Core.List.{List}
 use Prim.Native.Nat.{ℕ, ◌+◌, ◌-◌, ◌*◌, ◌≤◌, ◌<◌}
-use native.Mathlib.Nat.{suc-mul, mul-le-mul}
-use native.Mathlib.Numerals.{add-one}
 use native.Mathlib.Decide.{ℕ_discrete, dec_lt}
 use native.Mathlib.Omega.{arith}
 use Rattle.image.specs.Bytes.{be16_at, be32_at, be64_at}
@@ -19,18 +17,6 @@ module _ (a b c d p s : ℕ) (hb : b < 65536) (hc : c < 65536) (hd : d < 65536) 
   four-words : a * 281474976710656 + b * 4294967296 + c * 65536 + d ≡ p * 281479271743489 + s * 844433520132096 → (a ≡ p + 3 * s) × (b ≡ p + 2 * s) × (c ≡ p + s) × (d ≡ p)
   four-words e =
       four_same a b c d (p + 3 * s) (p + 2 * s) (p + s) p hb hc hd (omega (arith, hp)) (omega (arith, hp)) (omega (arith, hp)) (omega (arith, e))
-
-times-next : (i s : ℕ) → (i + 1) * s ≡ i * s + s
-times-next i s = let e = suc-mul i s in rw (add-one i) (omega arith)
-
-pub four-next : (i s : ℕ) → (i + 4) * s ≡ i * s + 4 * s
-four-next i s =
-    let a = times-next i s in
-    let b = times-next (i + 1) s in
-    let c = times-next (i + 1 + 1) s in
-    let d = times-next (i + 1 + 1 + 1) s in
-    let e : i + 4 ≡ i + 1 + 1 + 1 + 1 = omega arith in
-    rw e (omega arith)
 
 module _ (img : List ℕ) (bs : Bytes img) (end size i want : ℕ) (room : 2 * i + 6 ≤ end) (w : want ≡ 14 + i * size) (few : want + 3 * size < 65536) where
   pub four-right : be64_at img (end - 6 - 2 * i) ≡ want * 281479271743489 + size * 844433520132096
@@ -49,21 +35,15 @@ module _ (img : List ℕ) (bs : Bytes img) (end size i want : ℕ) (room : 2 * i
       go (no a) (yes q) c =
           let z : end - 6 - 2 * i + 4 ≡ end - 2 * (i + 1) = omega arith in
           let f = rw z at four.2 in
-          let t = times-next i size in
           rw q (omega arith)
       go (no a) (no b) (yes q) =
           let z : end - 6 - 2 * i + 2 ≡ end - 2 * (i + 1 + 1) = omega arith in
           let f = rw z at four.1 in
-          let t = times-next i size in
-          let t2 = times-next (i + 1) size in
           rw q (omega arith)
       go (no a) (no b) (no c) =
           let q : j ≡ i + 1 + 1 + 1 = omega arith in
           let z : end - 6 - 2 * i ≡ end - 2 * (i + 1 + 1 + 1) = omega arith in
           let f = rw z at four.0 in
-          let t = times-next i size in
-          let t2 = times-next (i + 1) size in
-          let t3 = times-next (i + 1 + 1) size in
           rw q (omega arith)
 
 -- the words before i, and those of i and the three after it
@@ -73,6 +53,3 @@ words_more P i a b j l = go (dec_lt j i)
     go : Dec (j < i) → P j
     go (yes h) = a j h
     go (no n) = b j (omega arith) l
-
-pub sizes-small : (i m s : ℕ) → i ≤ m → s ≤ 20 → i * s ≤ m * 20
-sizes-small i m s h l = mul-le-mul h l

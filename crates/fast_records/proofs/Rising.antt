@@ -2,25 +2,18 @@
 -- Assumes nothing.
 use mathlib.Core.Path.{◌≡◌, ap, ◌∙◌}
 use mathlib.Core.List.{List}
-use Prim.Native.Nat.{ℕ, suc, ◌+◌, ◌-◌, ◌*◌, ◌/◌, ◌<◌, ◌≤◌}
-use native.Mathlib.Nat.{suc-mul, mul-le-mul_right}
-use native.Mathlib.Numerals.{add-one}
+use Prim.Native.Nat.{ℕ, suc, ◌+◌, ◌-◌, ◌*◌, ◌/◌, ◌<◌}
 use native.Mathlib.Decide.{ℕ_discrete}
 use native.Mathlib.Omega.{arith}
 use lib.ListN.{get_or}
+use Rattle.std.specs.Prelude.{IfSome}
+use Rattle.std.specs.declared.option.Option.{Option}
+use Rattle.std.specs.declared.option.Option.TheVariants.{Some, None}
 use borrow.Author.Count.{below_more}
 use Rattle.image.specs.Bytes.{be64_at}
 use Rattle.image.proofs.Words.{Bytes}
 use Rattle.fast_records.specs.Keyed.{turn, packed_at, Clean, LawfulKey, LawAt, Rises}
 use Rattle.fast_records.proofs.Numbers.{turn-key, law-of}
-
--- from one record to the next
-pub next_start : (first i step : ℕ) → first + (i + 1) * step ≡ first + i * step + step
-next_start first i step = let e = suc-mul i step in rw (add-one i) (omega arith)
-
--- no record of c starts after they all end
-pub start-within : (i c step : ℕ) → i ≤ c → i * step ≤ c * step
-start-within i c step h = mul-le-mul_right step h
 
 -- the turned key of record i
 module _ (img : List ℕ) (first step : ℕ) where
@@ -59,10 +52,16 @@ module _ (img : List ℕ) (first step : ℕ) where
         go j h (yes q) = let z : i - 1 ≡ j = omega arith in let l = rw z at c.last in let m = rw (← q) at e in omega arith
         go j h (no n) = c.ascend j (omega arith)
 
-    pub climbs-rises : (i key notes : ℕ) → 0 < i → Climbs i key notes → Clean notes → Rises img first step i (key / 256)
+    climbs-rises : (i key notes : ℕ) → 0 < i → Climbs i key notes → Clean notes → Rises img first step i (key / 256)
     climbs-rises i key notes p c k =
         record {
           law = c.law k;
           ascend = λ j h. (let a = c.ascend j h in let x = (c.law k j (omega arith)).length in let y = (c.law k (suc j) h).length in omega arith);
           last = let l = c.last in let x = b (first + (i - 1) * step) in omega arith;
         }
+
+    -- the packed number of the last of c keys, where it is handed out only with clean notes
+    pub rises-where-clean : (i c key notes : ℕ) (r : Option ℕ) → i ≡ c → 0 < i → Climbs i key notes
+        → IfSome r (λ packed. Clean notes × (packed ≡ key / 256)) → IfSome r (λ last. Rises img first step c last)
+    rises-where-clean i c key notes None e p k h = tt
+    rises-where-clean i c key notes (Some x) e p k (n, q) = rw (← e, q) (climbs-rises i key notes p k n)

@@ -8,12 +8,6 @@ use native.Mathlib.Omega.{arith}
 pub lead-small : (x : ℕ) → x < 18446744073709551616 → x / 281474976710656 < 65536
 lead-small x h = omega arith
 
-pub rest-small : (x : ℕ) → x % 281474976710656 < 281474976710656
-rest-small x = omega arith
-
-pub joined_small : (rest lead : ℕ) → rest < 281474976710656 → lead < 65536 → rest * 65536 + lead < 18446744073709551616
-joined_small rest lead h l = omega arith
-
 module _ (rest lead : ℕ) (l : lead < 65536) where
   high : (rest * 65536 + lead) / 4294967296 ≡ rest / 65536
   high = omega arith
@@ -30,7 +24,3 @@ module _ (rest lead : ℕ) (l : lead < 65536) where
   pub joined : (rest * 65536 + lead) / 4294967296 * 4294967296 + ((rest * 65536 + lead) % 4294967296 / 256 + (rest * 65536 + lead) % 4294967296 % 256 * 16777216)
       ≡ rest / 65536 * 4294967296 + (rest % 65536 * 256 + lead / 256 + lead % 256 * 16777216)
   joined = rw (high, low, first, last)
-
--- the upper half of a number, with another lower one
-pub halves_small : (x half : ℕ) → x < 18446744073709551616 → half < 4294967296 → x / 4294967296 * 4294967296 + half < 18446744073709551616
-halves_small x half h l = omega arith

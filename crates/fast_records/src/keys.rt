@@ -1,5 +1,5 @@
 // The keys of an HFS node in one pass. Each is read as one number, at the end of a turn, so that its bytes are one load.
-ghost use Rattle.std.specs.Prelude.{◌≡◌, true, ◌+◌, ◌-◌, ◌*◌, ◌/◌, ◌%◌, ◌<◌, ◌≤◌, length};
+ghost use Rattle.std.specs.Prelude.{◌≡◌, true, ◌+◌, ◌-◌, ◌*◌, ◌/◌, ◌%◌, ◌<◌, ◌≤◌, length, IfSome, MatchOption};
 ghost use Rattle.image.specs.Bytes.{be64_at};
 ghost use Rattle.fast_records.specs.Keyed.{turn, packed_at, Clean, LawfulKey, Rises};
 
@@ -45,44 +45,42 @@ fn is_clean(notes: u64) -> bool
     notes / 33_554_432 % 128 == 0
 }
 
-// The packed number of a turned key where the notes are clean, else a number above that of every key.
-fn packed_if_clean(notes: u64, key: u64) -> u64
-    ensures { result < 18446744073709551615 → Clean notes × (result ≡ key / 256) }
+// The packed number of a turned key where the notes are clean.
+fn packed_if_clean(notes: u64, key: u64) -> Option<u64>
+    ensures { IfSome result (λ packed. Clean notes × (packed ≡ key / 256)) }
 {
     if !is_clean(notes) {
-        return 18_446_744_073_709_551_615;
+        return None;
     }
-    key / 256
+    Some(key / 256)
 }
 
-// The packed number of the last of c keys where they are lawful and ascend, else a number above that of every key.
-pub fn last_rising(image: &[u8], first: usize, step: usize, c: u32, raw: u64) -> u64
+// The packed number of the last of c keys where they are lawful and ascend; None says nothing.
+pub fn last_rising(image: &[u8], first: usize, step: usize, c: u32, raw: u64) -> Option<u64>
     requires { (0 < c) × (step ≤ 20) × (first + c * step + 8 ≤ length image.now) × (raw ≡ be64_at image.now first) }
-    ensures { result < 18446744073709551615 → Rises image.now first step c result }
+    ensures { IfSome result (λ last. Rises image.now first step c last) }
 {
     let mut key = turned(raw);
     let mut notes = noted(0, key);
     let mut at = first + step;
     let mut next = be64_in(image, at);
-    let mut i: u32 = 1;
-    while i < c {
+    for _i in 1..c {
         let above = turned(next);
         if above <= key {
-            return 18_446_744_073_709_551_615;
+            return None;
         }
         notes = noted(notes, above);
         key = above;
         at += step;
         next = be64_in(image, at);
-        i += 1;
     }
     packed_if_clean(notes, key)
 }
 
-// The same of the 22 keys of a full leaf, three in a turn.
-pub fn last_of_full(image: &[u8], first: usize, raw: u64) -> u64
+// The same of the 22 keys of a full leaf, three in a turn: 40 instructions for three, where the general one takes 16 for each.
+pub fn last_of_full(image: &[u8], first: usize, raw: u64) -> Option<u64>
     requires { (first + 498 ≤ length image.now) × (raw ≡ be64_at image.now first) }
-    ensures { result < 18446744073709551615 → Rises image.now first 20 22 result }
+    ensures { IfSome result (λ last. Rises image.now first 20 22 last) }
 {
     let mut key = turned(raw);
     let mut notes = noted(0, key);
@@ -90,39 +88,37 @@ pub fn last_of_full(image: &[u8], first: usize, raw: u64) -> u64
     let mut next = be64_in(image, at + 20);
     let mut second = be64_in(image, at + 40);
     let mut third = be64_in(image, at + 60);
-    let mut left: u32 = 7;
-    while left > 0 {
+    for _turn in 0..7_u32 {
         let above = turned(next);
         if above <= key {
-            return 18_446_744_073_709_551_615;
+            return None;
         }
         notes = noted(notes, above);
         let higher = turned(second);
         if higher <= above {
-            return 18_446_744_073_709_551_615;
+            return None;
         }
         notes = noted(notes, higher);
         key = turned(third);
         if key <= higher {
-            return 18_446_744_073_709_551_615;
+            return None;
         }
         notes = noted(notes, key);
         at += 60;
         next = be64_in(image, at + 20);
         second = be64_in(image, at + 40);
         third = be64_in(image, at + 60);
-        left -= 1;
     }
     packed_if_clean(notes, key)
 }
 
-// The packed number of the key that stands before `after`; where none does, which is at 0, a number above that of every key.
-pub fn packed_before(image: &[u8], after: usize) -> u64
+// The packed number of the key that stands before `after`; at 0 none does.
+pub fn packed_before(image: &[u8], after: usize) -> Option<u64>
     requires { after + 7 ≤ length image.now }
-    ensures { (after ≡ 0 → ⊥) → result ≡ packed_at image.now (after - 1) }
+    ensures { MatchOption result (after ≡ 0) (λ key. (after ≡ 0 → ⊥) × (key ≡ packed_at image.now (after - 1))) }
 {
     if after == 0 {
-        return 18_446_744_073_709_551_615;
+        return None;
     }
-    turned(be64_in(image, after - 1)) / 256
+    Some(turned(be64_in(image, after - 1)) / 256)
 }

@@ -20,6 +20,3 @@ module _ (form : Form) where
 
   pub asked-extents : form.tree ≡ 0 → (key : SortKey) (name : List ℕ) → asked_rank form key name ≡ extent.rank_of key
   asked-extents t key name = if-zero form.tree _ _ t
-
-  pub asked-catalog : (form.tree ≡ 0 → ⊥) → (key : SortKey) (name : List ℕ) → asked_rank form key name ≡ catalog.rank (catalog.asked key.owner name)
-  asked-catalog t key name = if-not form.tree _ _ t

@@ -1,4 +1,4 @@
-// The keys and the records of a node, of either tree: here the trees part, and no crate above asks which one it reads.
+// The keys and the records of a node, of either tree: here the trees part, and above only the tests of a node and the fast code ask which one it is.
 #![tactic(auto)]
 
 pub mod keys;

@@ -1,6 +1,6 @@
 -- The form of a tree file: its edition, which tree it is and the size of its nodes; which there are, and the sizes that follow.
 -- Assumes nothing.
-use Rattle.std.specs.Prelude.{◌≡◌, ◌⊎◌, List, [], ◌∷◌, ℕ, ◌-◌, ◌≤◌}
+use Rattle.std.specs.Prelude.{◌≡◌, ◌⊎◌, Option, None, Some, List, [], ◌∷◌, ℕ, ◌-◌, ◌≤◌}
 use Rattle.std.proofs.Math.Logic.Dec
 use Rattle.std.proofs.Math.Decide.{ℕ_discrete}
 use Rattle.btree.specs.Lists.{◌∈◌}
@@ -41,6 +41,11 @@ dec_listed form =
     dec_or
     (Dec.and (ℕ_discrete form.edition 0) (ℕ_discrete form.size 512))
     (Dec.and (ℕ_discrete form.edition 1) (dec_mem form.size plus_sizes))
+
+-- the form of these numbers where they are listed, and none where they are not
+abbrev pub OfNumbers : Form → Option Form → Type 0
+OfNumbers form None = Listed form → ⊥
+OfNumbers form (Some f) = Listed form × (f ≡ form)
 
 module _ (form : Form) where
   -- "key length is 7"; W-211: "10 in the header too"; W-204: "a catalog's header has key length 37"

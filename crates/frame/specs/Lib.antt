@@ -1,3 +1,4 @@
+pub mod Fields
 pub mod Form
 pub mod Kinds
 pub mod Inside

@@ -2,5 +2,6 @@
 #![tactic(auto)]
 
 pub mod form;
+pub mod kind;
 pub mod node;
 pub mod work;

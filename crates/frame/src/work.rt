@@ -6,8 +6,7 @@ ghost use Rattle.frame.specs.Form.{layout_of, Fair};
 use super::form::Form;
 
 pub fn needed_bytes(form: Form, image: &[u8]) -> usize
-    requires { Fair form }
-    ensures { result ≡ needed (layout_of form) image.now }
+    ensures { (result ≡ needed (layout_of form) image.now) × Fair form }
 {
-    (image.len() / (form.size as usize) + 7) / 8
+    (image.len() / (form.size() as usize) + 7) / 8
 }

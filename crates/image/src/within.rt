@@ -2,48 +2,37 @@
 ghost use Rattle.std.specs.Prelude.{◌≡◌, ◌+◌, ◌<◌, ◌≤◌, length, get_or};
 ghost use Rattle.image.specs.Bytes.{be16_at, be32_at, be64_at};
 
-// The bound is what shows that a sum of shifted bytes fits.
-pub fn wide(x: u8) -> u32
-    ensures { (result ≡ x) × (result < 256) }
-{
-    x as u32
-}
-
 pub fn byte_in(image: &[u8], at: usize) -> u32
     requires { at < length image.now }
     ensures { (result ≡ get_or image.now at 0) × (result < 256) }
 {
-    wide(image[at])
+    u32::from(image[at])
 }
 
+// By hand: with `u16::from_be_bytes` the bytes of `be64_in` are no longer one load, and the test of a full leaf takes 43 ns for 29.
 pub fn be16_in(image: &[u8], at: usize) -> u32
     requires { at + 2 ≤ length image.now }
     ensures { (result ≡ be16_at image.now at) × (result < 65536) }
 {
-    let high = wide(image[at]);
-    let low = wide(image[at + 1]);
-    high * 256 + low
+    u32::from(image[at]) * 256 + u32::from(image[at + 1])
 }
 
+// One function a width: a trait over the widths would be longer than the three, and each has the form that is quickest.
 pub fn be32_in(image: &[u8], at: usize) -> u32
     requires { at + 4 ≤ length image.now }
     ensures { result ≡ be32_at image.now at }
 {
-    let first = wide(image[at]);
-    let second = wide(image[at + 1]);
-    let third = wide(image[at + 2]);
-    let fourth = wide(image[at + 3]);
-    ((first * 256 + second) * 256 + third) * 256 + fourth
+    u32::from_be_bytes([image[at], image[at + 1], image[at + 2], image[at + 3]])
 }
 
-// Two bytes by two, so that one load reads all eight.
+// Two bytes by two: with `u64::from_be_bytes` the test of a full leaf, which most are, takes 32 ns for 29 (of 21 records 30 for 34).
 pub fn be64_in(image: &[u8], at: usize) -> u64
     requires { at + 8 ≤ length image.now }
     ensures { result ≡ be64_at image.now at }
 {
-    let first = be16_in(image, at) as u64;
-    let second = be16_in(image, at + 2) as u64;
-    let third = be16_in(image, at + 4) as u64;
-    let fourth = be16_in(image, at + 6) as u64;
+    let first = u64::from(be16_in(image, at));
+    let second = u64::from(be16_in(image, at + 2));
+    let third = u64::from(be16_in(image, at + 4));
+    let fourth = u64::from(be16_in(image, at + 6));
     first * 281_474_976_710_656 + second * 4_294_967_296 + third * 65_536 + fourth
 }

@@ -23,9 +23,8 @@ fn keys_right(row: &[u8], count: usize) -> bool
         return false;
     }
     let mut key = key_in(form, row, 0);
-    let mut at = 20;
-    let mut i: usize = 1;
-    while i < count {
+    for i in 1..count {
+        let at = 20 * i;
         if !key_lawful(form, row, at) {
             return false;
         }
@@ -34,8 +33,6 @@ fn keys_right(row: &[u8], count: usize) -> bool
             return false;
         }
         key = next;
-        at += 20;
-        i += 1;
     }
     true
 }

@@ -6,6 +6,9 @@ use mathlib.Core.List.{List}
 use Prim.Native.Nat.{ℕ, suc, ◌+◌, ◌*◌, ◌/◌, ◌<◌, ◌≤◌}
 use native.Mathlib.Decide.{ℕ_discrete, dec_lt}
 use native.Mathlib.Omega.{arith}
+use Rattle.std.specs.Option.{OnSome}
+use Rattle.std.specs.declared.option.Option.{Option}
+use Rattle.std.specs.declared.option.Option.TheVariants.{Some, None}
 use Rattle.image.specs.Bytes.{be32_at, be64_at}
 use Rattle.btree.specs.Decide.{cond}
 use Rattle.btree.specs.Places.{child_place}
@@ -26,6 +29,11 @@ use Rattle.fast_records.proofs.Numbers.{turn-key}
 use Rattle.fast_nodes.proofs.Ranks.{below-rank, same_rank}
 use Rattle.step.specs.State.{fresh_in}
 use Rattle.leaf_run.specs.Run.{Tops, Surely}
+
+-- more is said where something is
+pub on-some : {T A B : Type 0} (o : Option T) → (A → B) → OnSome o A → OnSome o B
+on-some None f h = h
+on-some (Some x) f h = f h
 
 -- the eight bytes of a key, turned, without the length
 pub turned-key : (img : List ℕ) → Bytes img → (at : ℕ) → turn (be64_at img at) / 256 ≡ packed_at img at

@@ -13,7 +13,8 @@ use Rattle.order.specs.Bound.{bound}
 use Rattle.fast_records.specs.Keyed.{packed_at}
 use Rattle.fast_nodes.specs.Passes.{LeafPasses}
 use Rattle.step.specs.declared.state.Walk.{Walk}
-use Rattle.step.specs.State.{state, fresh_in, last_at, steps}
+use Rattle.step.specs.State.{fresh_in, last_at, steps}
+use Rattle.step.specs.State.State.{going}
 use Rattle.step.specs.Room.{Small}
 use Rattle.step.specs.Ready.{Walkable}
 use Rattle.leaf_run.specs.declared.run.Run.{Run}
@@ -26,8 +27,6 @@ ran_of w d r =
       records = w.records + r.records;
       first = w.first;
       nodes = w.nodes + r.count;
-      number = w.number;
-      place = w.place;
     }
 
 -- it has room for the run
@@ -39,9 +38,9 @@ pub record Addable (w : Walk) (d : ℕ) (r : Run) : Type 0 where
 -- the entries from record i on, of c, come to what those after the run come to from where it ended
 pub record Ran (form : Form) (img bits after : List ℕ) (w : Walk) (h d n i c high : ℕ) (r : Run) : Type 0 where
   pub upto : i + r.count ≤ c
-  pub is : steps (view form img) (state bits w) (span i (c - i) (kid (view form img) h d (bound form img high) n))
-      ≡ steps (view form img) (state after (ran_of w (d + 1) r)) (span (i + r.count) (c - (i + r.count)) (kid (view form img) h d (bound form img high) n))
-  pub small : Small (state after (ran_of w (d + 1) r))
+  pub is : steps (view form img) (going bits w) (span i (c - i) (kid (view form img) h d (bound form img high) n))
+      ≡ steps (view form img) (going after (ran_of w (d + 1) r)) (span (i + r.count) (c - (i + r.count)) (kid (view form img) h d (bound form img high) n))
+  pub small : Small after (ran_of w (d + 1) r)
 
 -- what is asked at record i of c of a node on level d, with h levels below it
 pub record RunReady (form : Form) (img bits : List ℕ) (w : Walk) (h d n i c high : ℕ) : Type 0 where
@@ -51,15 +50,14 @@ pub record RunReady (form : Form) (img bits : List ℕ) (w : Walk) (h d n i c hi
   pub count : c ≡ (view form img).count n
   pub upto : i ≤ c
   pub high_place : high < 1000000000000000
-  pub small : Small (state bits w)
+  pub small : Small bits w
 
--- a walk with no fault, which has met a leaf, and p last on level d
+-- a walk that has met a leaf, and p last on level d
 pub record Begun (bits : List ℕ) (w : Walk) (d p : ℕ) : Type 0 where
-  pub clear : w.number ≡ 0
   pub first : w.first ≡ 0 → ⊥
   pub last : last_at w d ≡ p
   pub wide : length w.last ≡ 8
-  pub small : Small (state bits w)
+  pub small : Small bits w
 
 -- the bytes that a run over the leaves below an HFS index node of c records reads, with p met last before it
 pub record Readable (img : List ℕ) (p n c high : ℕ) : Type 0 where
@@ -73,7 +71,6 @@ pub record Readable (img : List ℕ) (p n c high : ℕ) : Type 0 where
 pub record CanRun (form : Form) (img : List ℕ) (w : Walk) (h p n c high : ℕ) : Type 0 where
   pub leaves : h ≡ 1
   pub is_hfs : form ≡ hfs
-  pub clear : w.number ≡ 0
   pub first : w.first ≡ 0 → ⊥
   pub readable : Readable img p n c high
 

@@ -1,5 +1,5 @@
 // The loop of a run over leaves. Each pointer record is read one turn before its own, so that its bytes are one load.
-ghost use Rattle.std.specs.Prelude.{◌≡◌, true, ◌+◌, ◌*◌, ◌/◌, ◌<◌, ◌≤◌, length};
+ghost use Rattle.std.specs.Prelude.{◌≡◌, ◌+◌, ◌*◌, ◌/◌, ◌<◌, ◌≤◌, length, IfSome, OnSome};
 ghost use Rattle.btree.specs.Header.{count_of, total_of};
 ghost use Rattle.frame.specs.Form.{hfs, layout_of};
 ghost use Rattle.frame.specs.Inside.{NodeIn};
@@ -28,7 +28,7 @@ fn top_of(image: &[u8], high: usize) -> u64
     requires { high + 7 ≤ length image.now }
     ensures { Tops image.now high result }
 {
-    packed_before(image, high)
+    packed_before(image, high).unwrap_or(u64::MAX)
 }
 
 // The next pointer key, which has these eight bytes, bounds a leaf's keys; the node's own bound those of the last leaf.
@@ -42,7 +42,7 @@ fn top_after(j: u32, c: u32, next: u64, bound: u64) -> u64
     bound
 }
 
-// How many records a leaf has that surely passes after p, where its pointer key has these eight bytes and its keys are below `top`; 0 says nothing.
+// How many records a leaf has that surely passes after p, where its pointer key has these eight bytes and its keys are below `top`; None says nothing.
 fn records_after(
     image: &[u8],
     bits: &[u8],
@@ -51,16 +51,16 @@ fn records_after(
     node: u32,
     low: u64,
     top: u64,
-) -> u32
+) -> Option<u32>
     requires { Walkable hfs image.now bits.now × NodeIn hfs image.now p × (total ≡ total_of image.now) }
-    ensures surely { 0 < result → Surely image.now bits.now p node low top }
-    ensures count { (0 < result → result ≡ count_of (layout_of hfs) image.now node) × (result < 65536) }
+    ensures surely { OnSome result (Surely image.now bits.now p node low top) }
+    ensures count { IfSome result (λ c. (c ≡ count_of (layout_of hfs) image.now node) × (c < 65536)) }
 {
     if !is_fresh(bits, total, node) {
-        return 0;
+        return None;
     }
     if be32_in(image, hfs_start(p)) != node {
-        return 0;
+        return None;
     }
     records_of_passing(image, node, p, low, top)
 }
@@ -83,27 +83,28 @@ pub fn leaves_from(
     let mut at = hfs_start(node) + 14 + (i as usize) * 12;
     let mut low = be64_in(image, at);
     let mut child = be32_in(image, at + 8);
-    let mut p = before;
+    let mut last = before;
     let mut records: u32 = 0;
-    let mut j = i;
-    while j < c {
+    for j in i..c {
         at += 12;
         let next = be64_in(image, at);
         let top = top_after(j, c, next, bound);
-        let n = records_after(image, bits, total, p, child, low, top);
-        if n == 0 {
-            break;
-        }
+        let Some(n) = records_after(image, bits, total, last, child, low, top) else {
+            return Run {
+                count: j - i,
+                last,
+                records,
+            };
+        };
         records += n;
         mark(bits, child);
-        p = child;
+        last = child;
         low = next;
         child = be32_in(image, at + 8);
-        j += 1;
     }
     Run {
-        count: j - i,
-        last: p,
+        count: c - i,
+        last,
         records,
     }
 }

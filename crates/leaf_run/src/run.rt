@@ -17,15 +17,14 @@ pub struct Run {
 }
 
 // The walk after a run on a level.
-pub fn ran(w: Walk, level: u32, run: Run) -> Walk
+pub fn ran(mut w: Walk, level: u32, run: Run) -> Walk
     requires { Addable w level run }
     ensures { result ≡ ran_of w level run }
 {
-    let mut x = w;
-    x.last[level as usize] = run.last;
-    x.records = x.records + run.records;
-    x.nodes = x.nodes + run.count;
-    x
+    w.last[level as usize] = run.last;
+    w.records += run.records;
+    w.nodes += run.count;
+    w
 }
 
 // Whether the image has all that a run reads.
@@ -66,22 +65,11 @@ fn can_run(
     requires { high < 1000000000000000 }
     ensures { result ≡ true → CanRun form image.now w below p node c high }
 {
-    if below != 1 {
-        return false;
-    }
-    if !is_hfs(form) {
-        return false;
-    }
-    if w.number != 0 {
-        return false;
-    }
-    if w.first == 0 {
-        return false;
-    }
-    is_readable(image, p, node, c, high)
+    below == 1 && is_hfs(form) && w.first != 0 && is_readable(image, p, node, c, high)
 }
 
-// As many leaves from record i of c on as surely pass, where all below the node are leaves.
+// As many leaves from record i of c on as surely pass, where all below the node are leaves. By numbers and no struct, which are held in registers: the walk's
+// state moved as a struct cost a fifth of the time.
 pub fn leaf_run(
     form: Form,
     image: &[u8],

@@ -1,9 +1,9 @@
 -- The turns of the loop over the nodes of an index level, whose keys lie in the row.
 -- Assumes nothing.
-use mathlib.Core.Path.{◌≡◌, refl, sym, ap, ◌∙◌}
+use mathlib.Core.Path.{◌≡◌, refl, ap, ◌∙◌}
 use mathlib.Core.List.{List, ◌++◌}
-use Prim.Native.Nat.{ℕ, suc, ◌+◌, ◌-◌, ◌*◌, ◌≤◌, ◌<◌, min}
-use native.Mathlib.Nat.{suc-mul, add-mul, mul_assoc, mul_left_comm, mul-le-mul_right}
+use Prim.Native.Nat.{ℕ, ◌+◌, ◌-◌, ◌*◌, ◌≤◌, ◌<◌, min}
+use native.Mathlib.Nat.{add-mul, mul_assoc, mul_left_comm, mul-le-mul_right}
 use native.Mathlib.Omega.{arith}
 use native.Mathlib.Decide.{dec_lt}
 use lib.ListN.{length}
@@ -19,9 +19,6 @@ use Rattle.level_writer.specs.Parts.{index_at, LevelIn}
 -- the key of child 35 k + i is i steps after that of child 35 k
 key_of : (k i step : ℕ) → (35 * k + i) * step ≡ k * (35 * step) + i * step
 key_of k i step = add-mul (35 * k) i step ∙ ap (λ x. x + i * step) (mul_assoc 35 k step ∙ mul_left_comm 35 k step)
-
-pub jump-on : (k jump : ℕ) → k * jump + jump ≡ (k + 1) * jump
-jump-on k jump = let z : k + 1 ≡ suc k = omega arith in rw z (sym (suc-mul k jump))
 
 module _ {size at len s n child e step : ℕ} (l : LevelIn size at len s n child e step) (k : ℕ) (u : k < n) where
   -- node k has children
@@ -43,15 +40,14 @@ module _ {size at len s n child e step : ℕ} (l : LevelIn size at len s n child
   }
 
 -- what is written of node k, and what is left after it
-pub level-on : (level s n child e step : ℕ) (row : List ℕ) (k f b c from : ℕ) → k < n → c ≡ min 35 (e - 35 * k) → f ≡ cond (dec_lt (k + 1) n) (s + (k + 1)) 0 → b ≡ back_to s k
-    → from ≡ k * (35 * step)
-    → index_node f b level c from step (child + 35 * k) row ++ span (k + 1) (n - (k + 1)) (index_at level s n child e step row)
+pub level-on : (level s n child e step : ℕ) (row : List ℕ) (k f b c : ℕ) → k < n → c ≡ min 35 (e - 35 * k) → f ≡ cond (dec_lt (k + 1) n) (s + (k + 1)) 0 → b ≡ back_to s k
+    → index_node f b level c (k * (35 * step)) step (child + 35 * k) row ++ span (k + 1) (n - (k + 1)) (index_at level s n child e step row)
     ≡ span k (n - k) (index_at level s n child e step row)
 unfolding index_at
-level-on level s n child e step row k f b c from u ec ef eb eg = ap (λ x. x ++ span (k + 1) (n - (k + 1)) (index_at level s n child e step row)) one ∙ span-on (index_at level s n child e step row) n k u
+level-on level s n child e step row k f b c u ec ef eb = ap (λ x. x ++ span (k + 1) (n - (k + 1)) (index_at level s n child e step row)) one ∙ span-on (index_at level s n child e step row) n k u
   where
-    one : index_node f b level c from step (child + 35 * k) row ≡ index_at level s n child e step row k
-    one = rw (ec, ef, eb, eg)
+    one : index_node f b level c (k * (35 * step)) step (child + 35 * k) row ≡ index_at level s n child e step row k
+    one = rw (ec, ef, eb)
 
 pub level-long : {size at s n child e step : ℕ} (level : ℕ) (row : List ℕ) → LevelIn size at (length row) s n child e step
     → length (span 0 n (index_at level s n child e step row)) ≡ 512 * n

@@ -6,7 +6,7 @@ ghost use Rattle.put.specs.Put.{Puts};
 ghost use Rattle.btree.specs.Lists.{span};
 ghost use Rattle.level_writer.specs.Parts.{LeavesOf, leaves_from, LevelIn, index_at, LevelsIn, index_levels, levels_size};
 
-use node_writer::{back_link, index_node, leaf_node, link};
+use node_writer::{Children, back_link, index_node, leaf_node, link};
 
 // Where the records of a leaf end in a row, if they start at `from`.
 pub fn end_of(len: usize, from: usize) -> usize
@@ -22,62 +22,52 @@ pub fn leaf_level(target: &mut [u8], at: usize, row: &[u8], first: u32, nodes: u
     ensures { Puts target.old target.new at (512 * nodes) (leaves_from row.now first 0 nodes) result }
 {
     let mut a = at;
-    let mut k: u32 = 0;
-    while k < nodes {
+    for k in 0..nodes {
         let from = 440 * (k as usize);
         let to = end_of(row.len(), from);
         let forward = link(first, k + 1, nodes);
         let back = back_link(first, k);
         a = leaf_node(target, a, forward, back, &row[from..to]);
-        k += 1;
     }
     a
 }
 
 // How many children an index node takes of those that are left.
-pub fn taken(left: u32) -> u16
+pub fn taken(left: u32) -> u32
     ensures { result ≡ min 35 left }
 {
-    if left <= 35 { left as u16 } else { 35 }
+    left.min(35)
 }
 
-// An index level over so many children, which start with `child`. The keys of two that follow each other are `step` bytes apart in the row.
-pub fn index_level(
-    target: &mut [u8],
-    at: usize,
-    row: &[u8],
-    level: u8,
-    first: u32,
-    nodes: u32,
-    child: u32,
-    children: u32,
-    step: usize,
-) -> usize
-    requires { LevelIn (length target.old) at (length row.now) first nodes child children step }
-    ensures { Puts target.old target.new at (512 * nodes) (span 0 nodes (index_at level first nodes child children step row.now)) result }
+// An index level of so many nodes, the first of which is node `first`, over so many children, which start with `child`. The keys of two children that follow each
+// other are `step` bytes apart in the row.
+#[derive(Clone, Copy)]
+pub struct IndexLevel {
+    pub number: u8,
+    pub first: u32,
+    pub nodes: u32,
+    pub child: u32,
+    pub children: u32,
+    pub step: usize,
+}
+
+// The nodes of an index level, one after another.
+pub fn index_level(target: &mut [u8], at: usize, row: &[u8], level: IndexLevel) -> usize
+    requires { LevelIn (length target.old) at (length row.now) level.first level.nodes level.child level.children level.step }
+    ensures { Puts target.old target.new at (512 * level.nodes) (span 0 level.nodes (index_at level.number level.first level.nodes level.child level.children level.step row.now)) result }
 {
-    let jump = 35 * step;
+    let jump = 35 * level.step;
     let mut a = at;
-    let mut from = 0;
-    let mut k: u32 = 0;
-    while k < nodes {
-        let c = taken(children - 35 * k);
-        let forward = link(first, k + 1, nodes);
-        let back = back_link(first, k);
-        a = index_node(
-            target,
-            a,
-            forward,
-            back,
-            level,
-            row,
-            c,
-            from,
-            step,
-            child + 35 * k,
-        );
-        from += jump;
-        k += 1;
+    for k in 0..level.nodes {
+        let forward = link(level.first, k + 1, level.nodes);
+        let back = back_link(level.first, k);
+        let children = Children {
+            count: taken(level.children - 35 * k),
+            from: (k as usize) * jump,
+            step: level.step,
+            child: level.child + 35 * k,
+        };
+        a = index_node(target, a, forward, back, level.number, row, children);
     }
     a
 }
@@ -95,20 +85,24 @@ pub fn index_levels(
     ensures { Puts target.old target.new at (levels_size levels children) (index_levels row.now levels 2 child children 440) result }
 {
     let mut a = at;
-    let mut left = levels;
-    let mut level: u8 = 2;
     let mut lower = child;
     let mut width = children;
     let mut step = 440;
-    while left > 0 {
+    for number in 2..levels + 2 {
         let first = lower + width;
-        let nodes = (width + 34) / 35;
-        a = index_level(target, a, row, level, first, nodes, lower, width, step);
+        let nodes = width.div_ceil(35);
+        let level = IndexLevel {
+            number: number as u8,
+            first,
+            nodes,
+            child: lower,
+            children: width,
+            step,
+        };
+        a = index_level(target, a, row, level);
         lower = first;
         width = nodes;
         step = 35 * step;
-        level += 1;
-        left -= 1;
     }
     a
 }

@@ -1,7 +1,6 @@
 -- The rows of a listing, read from the leaf list, and the fields of a record.
 -- Assumes nothing.
-use Rattle.std.specs.Prelude.{◌≡◌, ◌↔◌, List, [], ◌∷◌, ℕ, zero, suc, ◌+◌, ◌≤◌}
-use Rattle.std.proofs.Math.Option.{Option, none, some}
+use Rattle.std.specs.Prelude.{◌≡◌, ◌↔◌, List, [], ◌∷◌, ℕ, ◌+◌, ◌≤◌, Option, None, option_map, slice_get}
 use Rattle.image.specs.Bytes.{be16_at}
 use Rattle.btree.specs.Tree.{Rec}
 use Rattle.frame.specs.Form.{hfs}
@@ -9,27 +8,19 @@ use Rattle.extent_keys.specs.declared.key.Key.{Key}
 use Rattle.extent_keys.specs.Key.{key_at}
 use Rattle.formats.specs.Format.{record_at, data_at}
 use Rattle.extents.specs.Reader.{leaf_list}
-use Rattle.listing.specs.declared.Row.{Row}
-use Rattle.listing.specs.declared.Row.TheVariants.{Record, NoRecord}
-
--- element k of a list, counted from 0, if there is one
-unfoldable pub nth : {A : Type 0} → ℕ → List A → Option A
-nth k [] = none
-nth zero (x ∷ xs) = some x
-nth (suc k) (x ∷ xs) = nth k xs
+use Rattle.listing.specs.declared.LeafRecord.{LeafRecord}
 
 -- a row names its record by node and number; the leaf record has its start too
-abbrev pub row_of : Option Rec → Row
-row_of none = NoRecord
-row_of (some x) = Record x.node x.number
+abbrev pub row_of : Rec → LeafRecord
+row_of x = record { node = x.node; number = x.number }
 
--- "one line per leaf record in leaf order": row k, counted from 0
-abbrev pub leaf_row : List ℕ → ℕ → Row
-leaf_row img k = row_of (nth k (leaf_list img))
+-- "one line per leaf record in leaf order": row k, counted from 0, if there is one
+abbrev pub leaf_row : List ℕ → ℕ → Option LeafRecord
+leaf_row img k = option_map row_of (slice_get (leaf_list img) k)
 
 -- row k is past the last one just where there are no more than k rows
-abbrev pub EndsAt : ℕ → ℕ → Row → Type 0
-EndsAt rows k r = (r ≡ NoRecord) ↔ (rows ≤ k)
+abbrev pub EndsAt : ℕ → ℕ → Option LeafRecord → Type 0
+EndsAt rows k r = (r ≡ None) ↔ (rows ≤ k)
 
 -- the three numbers of a key
 abbrev pub key_fields : Key → List ℕ → List ℕ

@@ -11,11 +11,11 @@ use frame::form::of_hfs;
 use frame::node::{count_of, forward_of};
 use image::bytes::{be16, be32, byte_at};
 
-// A row of the listing: the node and the record's number in it, or past the last row.
+// A leaf record by its node and its number in that node, from 0.
 #[derive(Clone, Copy)]
-pub enum Row {
-    Record(u32, u32),
-    NoRecord,
+pub struct LeafRecord {
+    pub node: u32,
+    pub number: u32,
 }
 
 // The header's count of leaf records, which of a sound image is that of its rows.
@@ -26,34 +26,32 @@ pub fn row_count(image: &[u8]) -> u32
     be32(image, 20)
 }
 
-// Leaf record k from 0, along the forward links; as many links as there are nodes, so that links which go round end.
-pub fn leaf_record(image: &[u8], k: u32) -> Row
+// Leaf record k from 0, if there is one, along the forward links; as many links as there are nodes, so that links which go round end.
+pub fn leaf_record(image: &[u8], k: u32) -> Option<LeafRecord>
     ensures equal { result ≡ leaf_row image.now k }
     ensures whole { Sound image.now → EndsAt (leaf_records_of image.now) k result }
 {
-    let mut links = be32(image, 36);
     let mut node = be32(image, 24);
     let mut left = k;
-    while links > 0 {
+    for _ in 0..be32(image, 36) {
         if node == 0 {
-            return Row::NoRecord;
+            return None;
         }
         let c = count_of(of_hfs(), image, node);
         if left < c {
-            return Row::Record(node, left);
+            return Some(LeafRecord { node, number: left });
         }
         left -= c;
         node = forward_of(of_hfs(), image, node);
-        links -= 1;
     }
-    Row::NoRecord
+    None
 }
 
 // File number, fork, start block, and the three pairs of first block and block count.
-pub fn row_fields(image: &[u8], node: u32, i: u32) -> [u32; 9]
-    ensures { result ≡ fields_of image.now node i }
+pub fn row_fields(image: &[u8], row: LeafRecord) -> [u32; 9]
+    ensures { result ≡ fields_of image.now row.node row.number }
 {
-    let key = record_at(of_hfs(), image, node, i);
+    let key = record_at(of_hfs(), image, row.node, row.number);
     let data = key + 8;
     [
         be32(image, key + 2),

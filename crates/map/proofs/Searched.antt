@@ -63,7 +63,7 @@ module _ (form : Form) (img : List ℕ) (framed : Framed form img) where
   pub node-map-inside : first_record_at + l.node_map ≤ form.size
   node-map-inside = omega (arith, (fits form framed.fair).node)
 
-  pub header-inside : header_map_at + l.header_map ≤ length img
+  header-inside : header_map_at + l.header_map ≤ length img
   header-inside = let s = framed.lengths.some in omega (arith, framed.fair.least)
 
   module _ (bits : List ℕ) where

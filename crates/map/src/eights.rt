@@ -28,12 +28,11 @@ pub fn same_bytes(map: &[u8], bits: &[u8], first: usize) -> usize
     requires { (length map.now ≤ 32768) × (first ≤ 4294967296) }
     ensures { (result ≤ length map.now) × ((j : ℕ) → j < result → get_or map.now j 0 ≡ get_or bits.now (first + j) 0) }
 {
-    let mut i: usize = 0;
-    while i + 8 <= map.len() {
+    for eight in 0..map.len() / 8 {
+        let i = 8 * eight;
         if be64_in(map, i) != eight_at(bits, first + i) {
             return i;
         }
-        i += 8;
     }
-    i
+    map.len() / 8 * 8
 }

@@ -14,35 +14,24 @@ use Rattle.laid.proofs.Bytes.{span-length}
 use Rattle.laid.proofs.Nodes.{part_length, map-length}
 use Rattle.map_writer.specs.Parts.{front, numbers, header_words}
 
-pub part-on : (u from n i : ℕ) → i < n → map_part u (from + i) (n - i) ≡ (map_byte u (from + i) ∷ []) ++ map_part u (from + (i + 1)) (n - (i + 1))
+pub part-on : (u k n : ℕ) → k < n → map_part u k (n - k) ≡ (map_byte u k ∷ []) ++ map_part u (k + 1) (n - (k + 1))
 unfolding map_part
-part-on u from n i l =
-    let z : n - i ≡ suc (n - (i + 1)) = omega arith in
-    let y : from + (i + 1) ≡ suc (from + i) = omega arith in
+part-on u k n l =
+    let z : n - k ≡ suc (n - (k + 1)) = omega arith in
+    let y : k + 1 ≡ suc k = omega arith in
     rw (z, y)
 
-pub part_end : (u from n i : ℕ) → n ≤ i → map_part u (from + i) (n - i) ≡ []
+pub part_end : (u k n : ℕ) → n ≤ k → map_part u k (n - k) ≡ []
 unfolding map_part
-part_end u from n i l = let z : n - i ≡ 0 = omega arith in rw z
+part_end u k n l = let z : n - k ≡ 0 = omega arith in rw z
 
 pub part-long : (u from n : ℕ) → length (map_part u from n) ≡ n
 part-long u from n = part_length u from n
 
-pub part-start : (u from n : ℕ) → map_part u (from + 0) (n - 0) ≡ map_part u from n
-part-start u from n = let z : from + 0 ≡ from = omega arith in let y : n - 0 ≡ n = omega arith in rw (z, y)
-
 -- a byte of the map by how many of its bits are used
-pub byte-none : (u k : ℕ) → u ≤ 8 * k → 0 ≡ map_byte u k
+pub byte-some : (u k n : ℕ) → min 8 (u - 8 * k) ≡ n → 256 - 2 ^ (8 - n) ≡ map_byte u k
 unfolding map_byte
-byte-none u k l = let z : min 8 (u - 8 * k) ≡ 0 = omega arith in rw z
-
-pub byte-all : (u k : ℕ) → 8 ≤ u - 8 * k → 255 ≡ map_byte u k
-unfolding map_byte
-byte-all u k l = let z : min 8 (u - 8 * k) ≡ 8 = omega arith in rw z
-
-pub byte-some : (u k n : ℕ) → u - 8 * k ≡ n → n < 8 → 256 - 2 ^ (8 - n) ≡ map_byte u k
-unfolding map_byte
-byte-some u k n e l = let z : min 8 (u - 8 * k) ≡ n = omega arith in rw z
+byte-some u k n e = rw e
 
 -- the link of map node i, as the code reckons it
 pub map-linked : (i m r : ℕ) → r ≡ cond (dec_lt (i + 1) m) (1 + (i + 1)) 0 → (rest : List ℕ)

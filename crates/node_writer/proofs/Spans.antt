@@ -1,15 +1,12 @@
 -- The turns of a loop over the nodes of a level: what is left is one node and what is left after it.
 -- Assumes nothing.
-use mathlib.Core.Path.{◌≡◌, ap}
+use mathlib.Core.Path.{◌≡◌}
 use mathlib.Core.List.{List, [], ◌++◌}
 use Prim.Native.Nat.{ℕ, suc, ◌+◌, ◌-◌, ◌≤◌, ◌<◌}
 use native.Mathlib.Omega.{arith}
 use Rattle.btree.specs.Lists.{span}
 
 module _ (f : ℕ → List ℕ) (n : ℕ) where
-  pub span-start : span 0 (n - 0) f ≡ span 0 n f
-  span-start = ap (λ c. span 0 c f) (let z : n - 0 ≡ n = omega arith in z)
-
   pub span-on : (k : ℕ) → k < n → f k ++ span (k + 1) (n - (k + 1)) f ≡ span k (n - k) f
   span-on k l =
       let z : n - k ≡ suc (n - (k + 1)) = omega arith in

@@ -8,24 +8,26 @@ ghost use Rattle.btree.specs.Decide.{cond};
 ghost use Rattle.laid.specs.Laid.{described, offsets, back_to};
 ghost use Rattle.node_writer.specs.Parts.{framed, leaf_node, Inside, indexed, index_node};
 
+// What the first 14 bytes of a node say of it. Kind and level are the bytes that are laid down.
+#[derive(Clone, Copy)]
+pub struct Descriptor {
+    pub forward: u32,
+    pub back: u32,
+    pub kind: u8,
+    pub level: u8,
+    pub count: u16,
+}
+
 // The first 14 bytes of a node.
-pub fn describe(
-    target: &mut [u8],
-    at: usize,
-    forward: u32,
-    back: u32,
-    kind: u8,
-    level: u8,
-    count: u16,
-) -> usize
+pub fn describe(target: &mut [u8], at: usize, node: Descriptor) -> usize
     requires { at + 14 ≤ length target.old }
-    ensures { Puts target.old target.new at 14 (described forward back kind level count) result }
+    ensures { Puts target.old target.new at 14 (described node.forward node.back node.kind node.level node.count) result }
 {
-    let a = put::number32(target, at, forward);
-    let b = put::number32(target, a, back);
-    let c = put::byte(target, b, kind);
-    let d = put::byte(target, c, level);
-    let e = put::number16(target, d, count);
+    let a = put::number32(target, at, node.forward);
+    let b = put::number32(target, a, node.back);
+    let c = put::byte(target, b, node.kind);
+    let d = put::byte(target, c, node.level);
+    let e = put::number16(target, d, node.count);
     put::number16(target, e, 0)
 }
 
@@ -38,6 +40,7 @@ pub fn link(first: u32, k: u32, nodes: u32) -> u32
 }
 
 // The node before the one k places after the first, or 0 for the first.
+#[tactic(auto, unfolding(laid::specs::Laid::back_to))]
 pub fn back_link(first: u32, k: u32) -> u32
     requires { first + k < 4294967296 }
     ensures { result ≡ back_to first k }
@@ -45,30 +48,26 @@ pub fn back_link(first: u32, k: u32) -> u32
     if k == 0 { 0 } else { first + (k - 1) }
 }
 
-// The offset words of so many records of a size, where the last record ends at `end`.
-pub fn offset_words(target: &mut [u8], at: usize, size: u16, count: u16, end: u16) -> usize
-    requires { (count ≤ 35) × (at + (2 * count + 2) ≤ length target.old) × (end ≡ 14 + count * size) }
+// The offset words of so many records of a size, that of the free bytes first.
+pub fn offset_words(target: &mut [u8], at: usize, size: u16, count: u16) -> usize
+    requires { (count ≤ 35) × (at + (2 * count + 2) ≤ length target.old) × (14 + count * size < 65536) }
     ensures { Puts target.old target.new at (2 * count + 2) (offsets size count) result }
 {
     let mut a = at;
-    let mut k = count;
-    let mut word = end;
-    while k > 0 {
-        a = put::number16(target, a, word);
-        word -= size;
-        k -= 1;
+    for k in (0..=count).rev() {
+        a = put::number16(target, a, 14 + k * size);
     }
-    put::number16(target, a, 14)
+    a
 }
 
 // The rest of a node after so many records of a size: zeros, and the offset words.
-pub fn node_end(target: &mut [u8], at: usize, size: u16, count: u16, end: u16) -> usize
-    requires { (count ≤ 35) × (end ≡ 14 + count * size) × (count * size + 2 * (count + 1) ≤ 498) × (at + (498 - count * size) ≤ length target.old) }
+pub fn node_end(target: &mut [u8], at: usize, size: u16, count: u16) -> usize
+    requires { (count ≤ 35) × (count * size + 2 * (count + 1) ≤ 498) × (at + (498 - count * size) ≤ length target.old) }
     ensures { Puts target.old target.new at (498 - count * size) (framed size count) result }
 {
-    let gap = 510 - end - 2 * count;
+    let gap = 498 - (count * size + 2 * (count + 1));
     let a = put::zeros(target, at, gap as usize);
-    offset_words(target, a, size, count, end)
+    offset_words(target, a, size, count)
 }
 
 // A leaf with these records.
@@ -77,9 +76,16 @@ pub fn leaf_node(target: &mut [u8], at: usize, forward: u32, back: u32, records:
     ensures { Puts target.old target.new at 512 (leaf_node forward back records.now) result }
 {
     let count = (records.len() / 20) as u16;
-    let a = describe(target, at, forward, back, 255, 1, count);
+    let node = Descriptor {
+        forward,
+        back,
+        kind: 255,
+        level: 1,
+        count,
+    };
+    let a = describe(target, at, node);
     let b = put::copy(target, a, records);
-    node_end(target, b, 20, count, 14 + count * 20)
+    node_end(target, b, 20, count)
 }
 
 // A key of the row.
@@ -91,32 +97,30 @@ pub fn key_part(target: &mut [u8], at: usize, row: &[u8], from: usize) -> usize
     put::copy(target, at, &row[from..end])
 }
 
-// A row's keys, each `step` bytes after the one before, with the numbers of the children from `child` on.
-pub fn index_entries(
-    target: &mut [u8],
-    at: usize,
-    row: &[u8],
-    count: u32,
-    from: usize,
-    step: usize,
-    child: u32,
-) -> usize
-    requires { (at + 12 * count ≤ length target.old) × (child + count < 4294967296) × Inside count from step (length row.now) }
-    ensures { Puts target.old target.new at (12 * count) (indexed count from step child row.now) result }
+// So many children of an index node: the first is node `child`, its key stands in the row at `from`, and each key after it `step` bytes on.
+#[derive(Clone, Copy)]
+pub struct Children {
+    pub count: u32,
+    pub from: usize,
+    pub step: usize,
+    pub child: u32,
+}
+
+// The keys of the children, each with the child's number.
+pub fn index_entries(target: &mut [u8], at: usize, row: &[u8], children: Children) -> usize
+    requires { (at + 12 * children.count ≤ length target.old) × (children.child + children.count < 4294967296) × Inside children.count children.from children.step (length row.now) }
+    ensures { Puts target.old target.new at (12 * children.count) (indexed children.count children.from children.step children.child row.now) result }
 {
     let mut a = at;
-    let mut place = from;
-    let mut i: u32 = 0;
-    while i < count {
+    for i in 0..children.count {
+        let place = children.from + (i as usize) * children.step;
         let b = key_part(target, a, row, place);
-        a = put::number32(target, b, child + i);
-        place += step;
-        i += 1;
+        a = put::number32(target, b, children.child + i);
     }
     a
 }
 
-// An index node of a level, with so many children.
+// An index node of a level, with these children.
 pub fn index_node(
     target: &mut [u8],
     at: usize,
@@ -124,15 +128,20 @@ pub fn index_node(
     back: u32,
     level: u8,
     row: &[u8],
-    count: u16,
-    from: usize,
-    step: usize,
-    child: u32,
+    children: Children,
 ) -> usize
-    requires { (at + 512 ≤ length target.old) × (count ≤ 35) × (child + count < 4294967296) × Inside count from step (length row.now) }
-    ensures { Puts target.old target.new at 512 (index_node forward back level count from step child row.now) result }
+    requires { (at + 512 ≤ length target.old) × (children.count ≤ 35) × (children.child + children.count < 4294967296) × Inside children.count children.from children.step (length row.now) }
+    ensures { Puts target.old target.new at 512 (index_node forward back level children.count children.from children.step children.child row.now) result }
 {
-    let a = describe(target, at, forward, back, 0, level, count);
-    let b = index_entries(target, a, row, count as u32, from, step, child);
-    node_end(target, b, 12, count, 14 + count * 12)
+    let count = children.count as u16;
+    let node = Descriptor {
+        forward,
+        back,
+        kind: 0,
+        level,
+        count,
+    };
+    let a = describe(target, at, node);
+    let b = index_entries(target, a, row, children);
+    node_end(target, b, 12, count)
 }

@@ -23,15 +23,13 @@ pub fn extents_ascend(form: Form, image: &[u8], node: u32) -> bool
     let step = record_step(form, image, node);
     let mut at = record_at(form, image, node, 0);
     let mut key = key_in(form, image, at);
-    let mut i: u32 = 0;
-    while i + 1 < c {
+    for _i in 0..c - 1 {
         at += step;
         let next = key_in(form, image, at);
         if !extent_keys::key::is_below(key, next) {
             return false;
         }
         key = next;
-        i += 1;
     }
     true
 }
@@ -44,14 +42,12 @@ pub fn catalog_ascends(form: Form, image: &[u8], node: u32) -> bool
     let table = character_order();
     let c = count_of(form, image, node);
     let mut at = record_at(form, image, node, 0);
-    let mut i: u32 = 0;
-    while i + 1 < c {
-        let next = record_at(form, image, node, i + 1);
+    for i in 1..c {
+        let next = record_at(form, image, node, i);
         if !catalog_keys::keys::is_below(&table, image, at, next) {
             return false;
         }
         at = next;
-        i += 1;
     }
     true
 }

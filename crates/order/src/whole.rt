@@ -6,6 +6,7 @@ ghost use Rattle.order.specs.Whole.{dec_whole_leaf};
 
 use super::keys::keys_ascend;
 use frame::form::Form;
+use frame::kind::Kind;
 use nodes::form::records_right;
 
 // A node counts whatever its level and its links.
@@ -13,8 +14,5 @@ pub fn is_whole(form: Form, image: &[u8], node: u32) -> bool
     requires { NodeIn form image.now node }
     ensures { result ≡ says (dec_whole_leaf form image.now node) }
 {
-    if !records_right(form, image, node, 255) {
-        return false;
-    }
-    keys_ascend(form, image, node)
+    records_right(form, image, node, Kind::Leaf) && keys_ascend(form, image, node)
 }

@@ -6,26 +6,20 @@ ghost use Rattle.std.specs.Io.{ReadsAtMost};
 ghost use Rattle.extents.specs.Reader.{verdict};
 
 use btree::Verdict;
+use btree::fault::verdict;
 use extents::check;
-use lines::{print, print_count, print_fields, print_titles, print_verdict};
-use listing::{Row, leaf_record, row_count, row_fields};
+use lines::{print_count, print_fields, print_titles, print_verdict};
+use listing::{leaf_record, row_count, row_fields};
 use std::io;
 use std::io::{Read, Write};
 
 pub mod lines;
 
-fn print_row<W: Write>(out: &mut W, image: &[u8], row: Row) -> io::Result<()> {
-    match row {
-        Row::Record(node, i) => print_fields(out, row_fields(image, node, i)),
-        Row::NoRecord => Ok(()),
-    }
-}
-
 fn print_rows<W: Write>(out: &mut W, image: &[u8], rows: u32) -> io::Result<()> {
-    let mut k: u32 = 0;
-    while k < rows {
-        print_row(out, image, leaf_record(image, k))?;
-        k += 1;
+    for k in 0..rows {
+        if let Some(row) = leaf_record(image, k) {
+            print_fields(out, row_fields(image, row))?;
+        }
     }
     Ok(())
 }
@@ -35,7 +29,7 @@ fn verdict_on(image: &[u8]) -> Verdict
     ensures { result ≡ verdict image.now }
 {
     let mut work = [0u8; 8192];
-    check(image, &mut work)
+    verdict(check(image, &mut work))
 }
 
 // The verdict; and of a sound image the leaf records and their count.
@@ -53,8 +47,8 @@ pub fn print_listing<W: Write>(out: &mut W, image: &[u8]) -> io::Result<()> {
 
 // A name, and the verdict on its image.
 pub fn print_case<W: Write>(out: &mut W, name: &[u8], image: &[u8]) -> io::Result<()> {
-    print(out, name)?;
-    print(out, b": ")?;
+    out.write_all(name)?;
+    out.write_all(b": ")?;
     print_verdict(out, verdict_on(image))
 }
 
@@ -63,6 +57,7 @@ fn read_full<R: Read>(input: &mut R, buf: &mut [u8]) -> io::Result<usize>
     ensures { ReadsAtMost result buf.new }
 {
     let mut done = 0;
+    // Counted by hand: `read_exact` does not say how many bytes came before an early end, and `read_to_end` needs a heap.
     while done < buf.len() {
         let n = input.read(&mut buf[done..])?;
         if n == 0 {
@@ -77,8 +72,8 @@ fn read_full<R: Read>(input: &mut R, buf: &mut [u8]) -> io::Result<usize>
 pub fn print_input<W: Write, R: Read>(out: &mut W, input: &mut R) -> io::Result<()> {
     let mut buf = [0u8; 65537];
     match read_full(input, &mut buf) {
-        Ok(n) if n > 65536 => print(out, b"too long\n"),
+        Ok(n) if n > 65536 => writeln!(out, "too long"),
         Ok(n) => print_listing(out, &buf[..n]),
-        Err(_) => print(out, b"cannot read the input\n"),
+        Err(_) => writeln!(out, "cannot read the input"),
     }
 }

@@ -8,6 +8,8 @@ use Rattle.btree.specs.declared.Answer.{Answer}
 use Rattle.btree.specs.declared.Answer.TheVariants as answer
 use Rattle.btree.specs.declared.Lookup.{Lookup}
 use Rattle.btree.specs.declared.Salvage.{Salvage}
+use Rattle.btree.specs.declared.fault.Fault.{Fault}
+use Rattle.btree.specs.Faults.{number_of}
 use Rattle.btree.specs.declared.Salvage.TheVariants.{Seen, NotSeen, Refused}
 use Rattle.btree.specs.Places.{image_start, image_offset}
 use Rattle.btree.specs.Decide.{cond}
@@ -27,6 +29,10 @@ use Rattle.reader.specs.Query.{Query}
 pub record Part : Type 0 where
   pub at : ℕ
   pub size : ℕ
+
+-- a salvage that is refused
+abbrev pub unseen : Fault → Salvage
+unseen f = Refused (number_of f.refusal) f.place
 
 abbrev pub empty_part : Part
 empty_part = record { at = 0; size = 0 }

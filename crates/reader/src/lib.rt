@@ -2,14 +2,16 @@
 #![tactic(auto)]
 
 ghost use Rattle.std.specs.Prelude.{◌≡◌, length};
+ghost use Rattle.btree.specs.Faults.{number_of};
 ghost use Rattle.btree.specs.Numbers.{lookup_reply};
 ghost use Rattle.btree.specs.Search.{refused};
 ghost use Rattle.frame.specs.Form.{Fair};
 ghost use Rattle.formats.specs.Asked.{asked_rank};
-ghost use Rattle.reader.specs.Reader.{Leaves, looked_up_by, found_part, salvaged_by, seen_part};
+ghost use Rattle.reader.specs.Reader.{Leaves, looked_up_by, found_part, salvaged_by, seen_part, unseen};
 ghost use Rattle.reader.specs.Demands.{PartOf};
 
-use btree::{Answer, Lookup, Path, Place, Salvage, Verdict, at_node};
+use btree::fault::{Fault, Refusal};
+use btree::{Answer, Lookup, Path, Place, Salvage};
 use checks::check;
 use extent_keys::key::SortKey;
 use formats::records::data_of;
@@ -19,22 +21,27 @@ use scan::first_seen;
 use search::descent::descend;
 
 // A lookup that is refused: no path, no key compared.
-pub fn refusal(t: Verdict) -> Lookup
-    ensures { result ≡ refused t.number t.place }
+pub fn refusal(fault: Fault) -> Lookup
+    ensures { result ≡ refused (number_of fault.refusal) fault.place }
 {
-    let place = t.place;
-    let answer = Answer::Refused(t.number, place);
-    let path = Path {
-        nodes: [0; 8],
-        len: 0,
-    };
     Lookup {
-        answer,
-        path,
+        answer: Answer::Refused(fault.refusal.number(), fault.place),
+        path: Path {
+            nodes: [0; 8],
+            len: 0,
+        },
         compared: 0,
     }
 }
 
+// A salvage that is refused.
+pub fn unseen(fault: Fault) -> Salvage
+    ensures { result ≡ unseen fault }
+{
+    Salvage::Refused(fault.refusal.number(), fault.place)
+}
+
+// These four ask a fair size once more, which `Form` has: their proofs need it where no call below hands it out.
 // What stands under a key: first it is judged whether the key may be asked for, then the whole image, and only then the tree is searched.
 pub fn lookup(
     form: Form,
@@ -49,13 +56,12 @@ pub fn lookup(
     ensures leaves { Leaves form image.now (lookup_reply result.answer).number work.old work.new }
 {
     if !lawful {
-        return refusal(at_node(11, 0));
+        return refusal(Fault::at_node(Refusal::AskedKey, 0));
     }
-    let t = check(form, image, work);
-    if t.number != 0 {
-        return refusal(t);
+    match check(form, image, work) {
+        Ok(()) => descend(form, image, key, name),
+        Err(fault) => refusal(fault),
     }
-    descend(form, image, key, name)
 }
 
 // The data bytes of the record that a lookup finds, or else the empty part at the image's start.
@@ -72,11 +78,9 @@ pub fn lookup_part<'a>(
     ensures leaves { Leaves form image.now (lookup_reply (looked_up_by form image.now lawful (asked_rank form key name.now) (length work.old)).answer).number work.old work.new }
 {
     let found = lookup(form, image, lawful, key, name, work);
-    let answer = found.answer;
-    match answer {
+    match found.answer {
         Answer::Found(place) => data_of(form, image, place),
-        Answer::Absent(_) => no_part(image),
-        Answer::Refused(_, _) => no_part(image),
+        Answer::Absent(_) | Answer::Refused(_, _) => no_part(image),
     }
 }
 
@@ -86,10 +90,10 @@ pub fn salvage(form: Form, image: &[u8], lawful: bool, key: SortKey, name: &[u8]
     ensures { result ≡ salvaged_by form image.now lawful (asked_rank form key name.now) }
 {
     if !lawful {
-        return Salvage::Refused(11, Place { node: 0, offset: 0 });
+        return unseen(Fault::at_node(Refusal::AskedKey, 0));
     }
-    if image.len() > 65_536 * (form.size as usize) {
-        return Salvage::Refused(1, Place { node: 0, offset: 0 });
+    if image.len() > 65_536 * (form.size() as usize) {
+        return unseen(Fault::at_node(Refusal::ImageLength, 0));
     }
     first_seen(form, image, key, name)
 }
@@ -107,7 +111,6 @@ pub fn salvage_part<'a>(
 {
     match salvage(form, image, lawful, key, name) {
         Salvage::Seen(place) => data_of(form, image, place),
-        Salvage::NotSeen => no_part(image),
-        Salvage::Refused(_, _) => no_part(image),
+        Salvage::NotSeen | Salvage::Refused(_, _) => no_part(image),
     }
 }

@@ -2,7 +2,6 @@
 ghost use Rattle.std.specs.Prelude.{◌≡◌, ◌≤◌};
 ghost use Rattle.btree.specs.Halving.{before};
 ghost use Rattle.btree.specs.Search.{in_leaf, with_key, descent_of, floor_of};
-ghost use Rattle.frame.specs.Form.{Fair};
 ghost use Rattle.formats.specs.Asked.{asked_rank};
 ghost use Rattle.formats.specs.Format.{view};
 ghost use Rattle.search.specs.Descent.{Searchable, reached_at, Reaches};
@@ -48,9 +47,8 @@ fn reach(form: Form, image: &[u8], key: SortKey, name: &[u8]) -> Reached
     }
     let mut node = be32(image, 16);
     nodes[0] = node;
-    let mut len: u32 = 1;
     let mut compared: u32 = 0;
-    while len < depth {
+    for len in 1..depth {
         let halved = halve(form, image, node, key, name);
         compared += halved.compared;
         let end = halved.end;
@@ -59,16 +57,15 @@ fn reach(form: Form, image: &[u8], key: SortKey, name: &[u8]) -> Reached
         }
         node = child_of(form, image, node, end - 1);
         nodes[len as usize] = node;
-        len += 1;
     }
     let halved = halve(form, image, node, key, name);
     compared += halved.compared;
-    ended(nodes, len, compared, node, halved.end)
+    ended(nodes, depth, compared, node, halved.end)
 }
 
 // What a leaf says of the key where halving ends here: the record before the end may have it.
 fn in_leaf(form: Form, image: &[u8], key: SortKey, name: &[u8], node: u32, end: u32) -> Answer
-    requires { Fair form × (end ≤ (view form image.now).count node) }
+    requires { (end ≤ (view form image.now).count node) }
     ensures { result ≡ in_leaf (view form image.now) node (with_key (view form image.now) (asked_rank form key name.now) node (before end)) }
 {
     if end == 0 {

@@ -20,6 +20,7 @@ pub fn halve(form: Form, image: &[u8], node: u32, key: SortKey, name: &[u8]) -> 
     let mut low: u32 = 0;
     let mut high = count_of(form, image, node);
     let mut compared: u32 = 0;
+    // Halving moves two bounds and counts no index, so no range has its turns.
     while low < high {
         // Of two the later.
         let middle = (low + high) / 2;

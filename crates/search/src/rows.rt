@@ -26,14 +26,12 @@ fn result_in(image: &[u8], number: u64) -> u32
     }
 }
 
-// One result for each key; those beyond the keys stay.
+// One result for each key; those beyond the keys stay. Two rows and an index over both, as the C interface lends them.
 pub fn fill(image: &[u8], keys: &[u64], results: &mut [u32])
     requires { Placeable image.now × (length keys.now ≤ length results.old) }
     ensures { results.new ≡ filled (result_in image.now) keys.now results.old }
 {
-    let mut i: usize = 0;
-    while i < keys.len() {
+    for i in 0..keys.len() {
         results[i] = result_in(image, keys[i]);
-        i += 1;
     }
 }

@@ -10,10 +10,9 @@ use lib.ListN.{length}
 use Rattle.image.specs.Bit.{bit_of}
 use Rattle.image.specs.Set.{with_bit}
 use Rattle.image.proofs.Laws.{marked-same, marked_other, bit-small}
-use Rattle.btree.specs.declared.Verdict.{Verdict}
 use Rattle.step.specs.declared.state.Walk.{Walk}
 use Rattle.btree.specs.Tells.{pick}
-use Rattle.step.specs.State.{state, stopped, kept}
+use Rattle.step.specs.State.{kept}
 use Rattle.step.specs.Room.{ones, Small}
 
 module _ (bits : List ℕ) (n : ℕ) (l : n / 8 < length bits) where
@@ -36,22 +35,18 @@ unfolding ones
 ones-le bits zero = omega arith
 ones-le bits (suc k) = omega (arith, ones-le bits k, bit-small bits k)
 
-pub small-stopped : (b : List ℕ) (w : Walk) (t : Verdict) → Small (state b w) → Small (state b (stopped w t))
-unfolding stopped
-small-stopped b w t s = record { records = s.records; nodes = s.nodes }
-
-pub nodes-fit : (b : List ℕ) (w : Walk) → Small (state b w) → w.nodes < 1000000
+pub nodes-fit : (b : List ℕ) (w : Walk) → Small b w → w.nodes < 1000000
 nodes-fit b w s = omega (arith, s.nodes, ones-le b 65536)
 
-pub records-most : (b : List ℕ) (w : Walk) → Small (state b w) → w.records < 4294967296
+pub records-most : (b : List ℕ) (w : Walk) → Small b w → w.records < 4294967296
 records-most b w s = omega (arith, s.records, ones-le b 65536)
 
 -- a node that is not marked yet
-module _ (b : List ℕ) (w : Walk) (n : ℕ) (range : n < 65536) (room : n / 8 < length b) (unmarked : bit_of b n ≡ 0) (c : ℕ) (count : c < 65536) (s : Small (state b w)) where
+module _ (b : List ℕ) (w : Walk) (n : ℕ) (range : n < 65536) (room : n / 8 < length b) (unmarked : bit_of b n ≡ 0) (c : ℕ) (count : c < 65536) (s : Small b w) where
   more : ones (with_bit b n) 65536 ≡ ones b 65536 + 1
   more = ones-more b n room unmarked 65536 range
 
-  pub small-kept : (d : ℕ) (leaf : Bool) → Small (state (with_bit b n) (kept w n d leaf c))
+  pub small-kept : (d : ℕ) (leaf : Bool) → Small (with_bit b n) (kept w n d leaf c)
   unfolding kept
   small-kept d leaf = record { records = rw more (go leaf); nodes = rw more (omega (arith, s.nodes)) }
     where

@@ -1,11 +1,13 @@
 -- What a step of the walk, and a visit of a node with all below it, ask and give.
 -- Assumes nothing.
-use Rattle.std.specs.Prelude.{◌≡◌, List, ℕ, ◌+◌, ◌*◌, ◌≤◌, ◌<◌, length}
+use Rattle.std.specs.Prelude.{◌≡◌, List, ℕ, ◌+◌, ◌*◌, ◌≤◌, length, Result, IfOk}
+use Rattle.btree.specs.declared.fault.Fault.{Fault}
 use Rattle.frame.specs.declared.form.Form.{Form}
 use Rattle.frame.specs.Form.{Fair}
 use Rattle.formats.specs.Format.{view}
+use Rattle.step.specs.declared.pointer.Pointer.{Pointer}
 use Rattle.step.specs.declared.state.Walk.{Walk}
-use Rattle.step.specs.State.{State, state}
+use Rattle.step.specs.State.{State, state_of}
 use Rattle.step.specs.Room.{Small}
 
 -- an image whose tree can be walked, with these bytes for the visited bitmap
@@ -18,16 +20,13 @@ pub record Walkable (form : Form) (img bits : List ℕ) : Type 0 where
   pub room : (view form img).total ≤ 8 * length bits
   pub shallow : (view form img).depth ≤ 8
 
--- what they ask, on level d with h levels below it, where the keys that point at the node and bound its own stand at these bytes
-pub record Ready (form : Form) (img bits : List ℕ) (d h low high : ℕ) (w : Walk) : Type 0 where
+-- what they ask, with h levels below the node that is pointed at
+pub record Ready (form : Form) (img bits : List ℕ) (e : Pointer) (h : ℕ) (w : Walk) : Type 0 where
   pub walkable : Walkable form img bits
-  pub levels : d + h + 1 ≡ (view form img).depth
-  pub low_place : low < 1000000000000000
-  pub high_place : high < 1000000000000000
-  pub clear : w.number ≡ 0
-  pub small : Small (state bits w)
+  pub levels : e.level + h + 1 ≡ (view form img).depth
+  pub small : Small bits w
 
--- what they give
-pub record Gives (r want : State) : Type 0 where
-  pub is : r ≡ want
-  pub small : Small r
+-- what they give, with the bits as they leave them
+pub record Gives (bits : List ℕ) (r : Result Walk Fault) (want : State) : Type 0 where
+  pub is : state_of bits r ≡ want
+  pub small : IfOk r (Small bits)

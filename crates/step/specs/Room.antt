@@ -3,7 +3,6 @@
 use Rattle.std.specs.Prelude.{List, ℕ, zero, suc, ◌+◌, ◌*◌, ◌<◌, ◌≤◌}
 use Rattle.image.specs.Bit.{bit_of}
 use Rattle.step.specs.declared.state.Walk.{Walk}
-use Rattle.step.specs.State.{State}
 
 -- how many of the first n bits are set
 unfoldable pub ones : List ℕ → ℕ → ℕ
@@ -11,9 +10,9 @@ ones bits zero = 0
 ones bits (suc n) = ones bits n + bit_of bits n
 
 -- no more nodes, and no more records, than the bits set allow
-pub record Small (s : State) : Type 0 where
-  pub records : s.rest.records ≤ 65535 * ones s.bits 65536
-  pub nodes : s.rest.nodes ≤ 65536 + ones s.bits 65536
+pub record Small (bits : List ℕ) (w : Walk) : Type 0 where
+  pub records : w.records ≤ 65535 * ones bits 65536
+  pub nodes : w.nodes ≤ 65536 + ones bits 65536
 
 -- a state that has room for a node with c records
 pub record Keepable (w : Walk) (d c : ℕ) : Type 0 where

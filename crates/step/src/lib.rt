@@ -2,43 +2,39 @@
 #![tactic(auto)]
 
 ghost use Rattle.formats.specs.Format.{view};
-ghost use Rattle.step.specs.State.{state, step, entry};
+ghost use Rattle.step.specs.State.{step, entry};
+ghost use Rattle.step.specs.State.State.{going};
 ghost use Rattle.step.specs.Ready.{Ready, Gives};
 
-use btree::Place;
+use btree::fault::Fault;
 use frame::form::Form;
 use frame::node::count_of;
 use image::bytes::be32;
 use image::visited::mark;
 use node::{is_fresh, tested};
-use state::{Walk, kept_at, stopped_at};
+use pointer::Pointer;
+use state::{Walk, kept_at};
 
 pub mod node;
+pub mod pointer;
 pub mod state;
 
-// The state with the node kept and its bit set, or with the first fault at it.
+// The state with the node kept and its bit set, or the first fault at it.
 pub fn stepped(
     form: Form,
     image: &[u8],
     bits: &mut [u8],
     w: Walk,
-    node: u32,
-    from: Place,
-    level: u32,
+    e: Pointer,
     below: u32,
-    low: usize,
-    high: usize,
-) -> Walk
-    requires { Ready form image.now bits.old level below low high w }
-    ensures { Gives (state bits.new result) (step (view form image.now) (state bits.old w) (entry form image.now node from level low high)) }
+) -> Result<Walk, Fault>
+    requires { Ready form image.now bits.old e below w }
+    ensures { Gives bits.new result (step (view form image.now) (going bits.old w) (entry form image.now e)) }
 {
-    let fresh = is_fresh(bits, be32(image, 36), node);
-    let p = w.last[level as usize];
-    let t = tested(form, image, fresh, p, node, from, level, low, high);
-    if t.number != 0 {
-        return stopped_at(w, t);
-    }
-    let c = count_of(form, image, node);
-    mark(bits, node);
-    kept_at(w, node, level, below == 0, c)
+    let fresh = is_fresh(bits, be32(image, 36), e.node);
+    let p = w.last[e.level as usize];
+    tested(form, image, fresh, p, e)?;
+    let c = count_of(form, image, e.node);
+    mark(bits, e.node);
+    Ok(kept_at(w, e.node, e.level, below == 0, c))
 }

@@ -1,24 +1,19 @@
 // What the walk of the tree keeps, and what a node adds to it.
 ghost use Rattle.std.specs.Prelude.{◌≡◌, ◌<◌, ◌≤◌};
 ghost use Rattle.btree.specs.Tells.{pick};
-ghost use Rattle.step.specs.State.{stopped, first_with, kept, last_at};
+ghost use Rattle.step.specs.State.{first_with, kept, last_at};
 ghost use Rattle.step.specs.Room.{Keepable};
-
-use btree::{Place, Verdict};
 
 // What the tests at the end ask of the nodes met; which ones they are is in the lent bytes.
 #[derive(Clone, Copy)]
 pub struct Walk {
-    // The last node met on each level, 0 for none.
+    // The last node met on each level, 0 for none as in a link, which this is compared with. Eight places by value: no heap.
     pub last: [u32; 8],
     // The leaves' records, and the first leaf.
     pub records: u32,
     pub first: u32,
     // How many nodes are met, with the header and the map chain.
     pub nodes: u32,
-    // The first fault, 0 for none.
-    pub number: u32,
-    pub place: Place,
 }
 
 pub fn last_on(w: Walk, level: u32) -> u32
@@ -28,30 +23,10 @@ pub fn last_on(w: Walk, level: u32) -> u32
     w.last[level as usize]
 }
 
-pub fn stopped_at(w: Walk, t: Verdict) -> Walk
-    ensures { result ≡ stopped w t }
-{
-    let last = w.last;
-    let place = t.place;
-    Walk {
-        last,
-        records: w.records,
-        first: w.first,
-        nodes: w.nodes,
-        number: t.number,
-        place,
-    }
-}
-
 fn first_with(leaf: bool, first: u32, node: u32) -> u32
     ensures { result ≡ first_with leaf first node }
 {
-    if leaf {
-        if first == 0 {
-            return node;
-        }
-    }
-    first
+    if leaf && first == 0 { node } else { first }
 }
 
 fn counted(leaf: bool, c: u32) -> u32
@@ -61,16 +36,13 @@ fn counted(leaf: bool, c: u32) -> u32
 }
 
 // A node that passed its tests.
-pub fn kept_at(w: Walk, node: u32, level: u32, leaf: bool, c: u32) -> Walk
+pub fn kept_at(mut w: Walk, node: u32, level: u32, leaf: bool, c: u32) -> Walk
     requires { Keepable w level c }
     ensures { result ≡ kept w node level leaf c }
 {
-    let first = first_with(leaf, w.first, node);
-    let more = counted(leaf, c);
-    let mut x = w;
-    x.last[level as usize] = node;
-    x.records = x.records + more;
-    x.first = first;
-    x.nodes = x.nodes + 1;
-    x
+    w.last[level as usize] = node;
+    w.records += counted(leaf, c);
+    w.first = first_with(leaf, w.first, node);
+    w.nodes += 1;
+    w
 }

@@ -9,46 +9,30 @@ use printing::print_case;
 use std::io;
 use std::io::Stdout;
 
-// A root over two leaves with other levels, that of the root and that of the leaves.
-fn say_other_levels(
-    out: &mut Stdout,
-    name: &[u8],
-    image: &mut [u8],
-    root: u32,
-    leaves: u32,
-) -> io::Result<()> {
-    put_index_tree(image, 2, 0x0026, 0xF000_0000, 0);
-    put8(image, 521, root);
-    put8(image, 1033, leaves);
-    put8(image, 1545, leaves);
-    print_case(out, name, image)
-}
-
-fn other_levels(out: &mut Stdout, name: &[u8], root: u32, leaves: u32) -> io::Result<()> {
-    let mut image = [0u8; 2048];
-    say_other_levels(out, name, &mut image, root, leaves)
-}
-
-// A root over two leaves, of the files 1 and 2, with another number at this byte.
-fn say_other_number(
-    out: &mut Stdout,
-    name: &[u8],
-    image: &mut [u8],
-    at: usize,
-    number: u32,
-) -> io::Result<()>
-    requires { at ≤ 4000100 }
+// A root over two leaves, of the files 1 and 2, with a change.
+fn changed<F: FnOnce(&mut [u8])>(out: &mut Stdout, name: &[u8], change: F) -> io::Result<()>
+    requires { F.IsAlwaysCallable change }
 {
-    put_index_tree(image, 2, 0x0026, 0xF000_0000, 0);
-    put32(image, at, number);
-    print_case(out, name, image)
+    let mut image = [0u8; 2048];
+    put_index_tree(&mut image, 2, 0x0026, 0xF000_0000, 0);
+    change(&mut image);
+    print_case(out, name, &image)
 }
 
+// With other levels, that of the root and that of the leaves.
+fn other_levels(out: &mut Stdout, name: &[u8], root: u32, leaves: u32) -> io::Result<()> {
+    changed(out, name, |image| {
+        put8(image, 521, root);
+        put8(image, 1033, leaves);
+        put8(image, 1545, leaves);
+    })
+}
+
+// With another number at this byte.
 fn other_number(out: &mut Stdout, name: &[u8], at: usize, number: u32) -> io::Result<()>
     requires { at ≤ 4000100 }
 {
-    let mut image = [0u8; 2048];
-    say_other_number(out, name, &mut image, at, number)
+    changed(out, name, |image| put32(image, at, number))
 }
 
 // Pointer keys: the low half of the file number, and the start block.
@@ -69,22 +53,12 @@ fn numbers(out: &mut Stdout) -> io::Result<()> {
 }
 
 // A leaf of 22 records, of the files from 1 up, in two of which the low half of the file number and the start block are others.
-fn say_other_keys(
-    out: &mut Stdout,
-    name: &[u8],
-    image: &mut [u8],
-    file5: u32,
-    file9: u32,
-) -> io::Result<()> {
-    put_leaf_tree(image, 22, 0x01C6);
-    put32(image, 630, file5);
-    put32(image, 710, file9);
-    print_case(out, name, image)
-}
-
 fn other_keys(out: &mut Stdout, name: &[u8], file5: u32, file9: u32) -> io::Result<()> {
     let mut image = [0u8; 1024];
-    say_other_keys(out, name, &mut image, file5, file9)
+    put_leaf_tree(&mut image, 22, 0x01C6);
+    put32(&mut image, 630, file5);
+    put32(&mut image, 710, file9);
+    print_case(out, name, &image)
 }
 
 fn keys(out: &mut Stdout) -> io::Result<()> {

@@ -1,4 +1,3 @@
 pub mod Planned
-pub mod Fronts
 pub mod Upper
 pub mod Assembled

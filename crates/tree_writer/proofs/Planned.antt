@@ -16,12 +16,12 @@ levels-from r l =
     sym (cond_no (ℕ_discrete r 0) 0 (suc (levels_above 7 ((r + 21) / 22))) (λ e. omega arith) ∙ ap (λ x. suc (levels_above 7 x)) (sym (leaf-nodes r)) ∙ (let z : suc (levels_above 7 (nodes_at r 0)) ≡ 1 + levels_above 7 (nodes_at r 0) = omega arith in z))
 
 -- one level more, where there is more than one node
-pub above_on : (d n : ℕ) → d < 8 → 1 < n → d + levels_above (8 - d) n ≡ d + 1 + levels_above (8 - (d + 1)) ((n + 34) / 35)
+pub above_on : (d n k : ℕ) → d < 8 → 1 < n → k ≡ (n + 34) / 35 → d + levels_above (8 - d) n ≡ d + 1 + levels_above (8 - (d + 1)) k
 unfolding levels_above
-above_on d n l u =
+above_on d n k l u e =
     let z : 8 - d ≡ suc (8 - (d + 1)) = omega arith in
-    let e = cond_no (dec_le n 1) 0 (suc (levels_above (8 - (d + 1)) ((n + 34) / 35))) (λ h. omega arith) in
-    rw z (omega (arith, e))
+    let f = cond_no (dec_le n 1) 0 (suc (levels_above (8 - (d + 1)) ((n + 34) / 35))) (λ h. omega arith) in
+    rw (z, e) (omega (arith, f))
 
 pub above-single : (f n : ℕ) → n ≤ 1 → levels_above f n ≡ 0
 unfolding levels_above
@@ -53,10 +53,10 @@ plan-some m r d root n l e a b =
       is_used = ap (λ x. x + n) b ∙ ap (λ x. start m r (d - 1) + x) a ∙ sym (ap (start m r) z ∙ start-step m r (d - 1));
     }
 
-pub next-nodes : (r d n : ℕ) → 1 ≤ d → n ≡ nodes_at r (d - 1) → (n + 34) / 35 ≡ nodes_at r (d + 1 - 1)
-next-nodes r d n l e =
+pub next-nodes : (r d n k : ℕ) → 1 ≤ d → n ≡ nodes_at r (d - 1) → k ≡ (n + 34) / 35 → k ≡ nodes_at r (d + 1 - 1)
+next-nodes r d n k l e f =
     let z : d + 1 - 1 ≡ suc (d - 1) = omega arith in
-    rw (z, e) (sym (index-nodes r (d - 1)))
+    rw (z, f, e) (sym (index-nodes r (d - 1)))
 
 pub next_start : (m r d n root : ℕ) → 1 ≤ d → n ≡ nodes_at r (d - 1) → root ≡ start m r (d - 1) → root + n ≡ start m r (d + 1 - 1)
 next_start m r d n root l e b =

@@ -13,14 +13,12 @@ pub struct Plan {
 }
 
 // The fewest map nodes that so many nodes need.
+#[tactic(auto, unfolding(laid::specs::Laid::maps_for))]
 pub fn maps_for(nodes: usize) -> usize
     requires { nodes ≤ 65536 }
     ensures { result ≡ maps_for nodes }
 {
-    if nodes <= 2_048 {
-        return 0;
-    }
-    (nodes - 2_048 + 3_951) / 3_952
+    nodes.saturating_sub(2_048).div_ceil(3_952)
 }
 
 // The leaves of so many records; no row is so long that it has 10 to the 18.
@@ -28,7 +26,7 @@ pub fn leaves_for(records: usize) -> usize
     requires { records < 1000000000000000000 }
     ensures { (result ≡ nodes_at records 0) × (result < 50000000000000000) }
 {
-    (records + 21) / 22
+    records.div_ceil(22)
 }
 
 // The tree of so many records after so many map nodes; its levels grow narrower until one has a single node.
@@ -45,8 +43,7 @@ pub fn planned(maps: usize, records: usize) -> Plan
         };
     }
     let mut n = leaves_for(records);
-    let mut depth: u32 = 1;
-    while depth < 8 {
+    for depth in 1..8 {
         if n <= 1 {
             return Plan {
                 depth,
@@ -55,11 +52,10 @@ pub fn planned(maps: usize, records: usize) -> Plan
             };
         }
         root += n;
-        n = (n + 34) / 35;
-        depth += 1;
+        n = n.div_ceil(35);
     }
     Plan {
-        depth,
+        depth: 8,
         root,
         used: root + n,
     }

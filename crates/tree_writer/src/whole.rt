@@ -9,16 +9,10 @@ ghost use Rattle.tree_writer.specs.Target.{FrontIn, TreeIn, TargetIn};
 
 use super::plan::leaves_for;
 use level_writer::{index_levels, leaf_level};
-use map_writer::{header_node, map_nodes};
-
-// The levels above the leaves.
-fn levels_above(depth: u32) -> u32
-    ensures { result ≡ depth - 1 }
-{
-    if depth == 0 { 0 } else { depth - 1 }
-}
+use map_writer::{TreeNumbers, header_node, map_nodes};
 
 // The first leaf, which the header names.
+#[tactic(auto, using(shape::proofs::Shape::start_first), unfolding(laid::specs::Laid::first_for))]
 fn first_leaf(depth: u32, maps: u32) -> u32
     requires { maps ≤ 20 }
     ensures { (records : ℕ) → result ≡ first_for maps records depth }
@@ -27,6 +21,7 @@ fn first_leaf(depth: u32, maps: u32) -> u32
 }
 
 // The last leaf, which the header names too.
+#[tactic(auto, using(shape::proofs::Shape::start_first), unfolding(laid::specs::Laid::last_for))]
 fn last_leaf(depth: u32, maps: u32, leaves: u32) -> u32
     requires { (maps ≤ 20) × (leaves ≤ 65536) × (0 < depth → 0 < leaves) }
     ensures { (records : ℕ) → leaves ≡ nodes_at records 0 → result ≡ last_for maps records depth }
@@ -48,20 +43,17 @@ fn lay_front(
     requires { FrontIn (length target.old) maps depth root records leaves nodes used }
     ensures { Puts target.old target.new 0 (512 + 512 * maps) (header maps records depth nodes ++ span 0 maps (map_node maps used)) result }
 {
-    let first = first_leaf(depth, maps);
-    let last = last_leaf(depth, maps, leaves);
-    let a = header_node(
-        target,
-        0,
+    let tree = TreeNumbers {
         maps,
-        depth as u16,
+        depth: depth as u16,
         root,
         records,
-        first,
-        last,
+        first: first_leaf(depth, maps),
+        last: last_leaf(depth, maps, leaves),
         nodes,
         used,
-    );
+    };
+    let a = header_node(target, 0, tree);
     map_nodes(target, a, maps, used)
 }
 
@@ -71,7 +63,7 @@ fn lay_tree(target: &mut [u8], at: usize, row: &[u8], maps: u32, depth: u32, lea
     ensures { Puts target.old target.new at (512 * leaves + levels_size (depth - 1) leaves) (leaves_from row.now (1 + maps) 0 leaves ++ index_levels row.now (depth - 1) 2 (1 + maps) leaves 440) result }
 {
     let a = leaf_level(target, at, row, 1 + maps, leaves);
-    index_levels(target, a, row, levels_above(depth), 1 + maps, leaves)
+    index_levels(target, a, row, depth.saturating_sub(1), 1 + maps, leaves)
 }
 
 // The whole image.

@@ -1,25 +1,19 @@
 -- The tests of the whole tree, from the header and the map chain to the nodes reached.
 -- Assumes nothing.
-use mathlib.Core.Path.{◌≡◌, sym, ap, subst, ◌∙◌}
+use mathlib.Core.Path.{◌≡◌, refl}
 use mathlib.Core.Logic.{◌⊎◌, inl, inr, ⊎_elim}
 use mathlib.Core.List.Memᴰ
 use mathlib.Core.List.{List, [], ◌∷◌}
 use Prim.Native.Nat.{ℕ, suc, ◌+◌, ◌*◌, ◌≤◌}
 use native.Mathlib.Omega.{arith}
-use lib.ListN.{length, get_or, replicate, length-append, length-replicate, get_or-replicate}
-use Rattle.btree.specs.declared.Verdict.{Verdict}
+use lib.ListN.{length, replicate, length-append, length-replicate, get_or-replicate}
 use Rattle.btree.specs.Lists.{◌∈◌}
 use Rattle.btree.specs.Tree.{View, map_chain, tree_nodes, reached}
-use Rattle.btree.specs.Walk.{fails, Entry, nodes_of, tree_entries, walk}
+use Rattle.btree.specs.Walk.{Entry, nodes_of, tree_entries}
 use Rattle.chain.specs.Frame.{Marks}
 use Rattle.chain.proofs.Marks.{marks-same}
 use Rattle.btree.proofs.Reached.{tree-size, entry-reached, reached-entry}
-use Rattle.step.specs.declared.state.Walk.{Walk}
-use Rattle.frame.specs.declared.form.Form.{Form}
-use Rattle.formats.specs.Format.{view}
-use Rattle.step.specs.State.{State, state, stopped}
 use Rattle.walk.proofs.Agree.{met, Agrees, onto}
-use Rattle.walk.specs.Outcome.{Ends}
 
 onto-mem : (n : ℕ) (es done : List Entry) → n ∈ nodes_of (onto es done) → (n ∈ nodes_of es) ⊎ (n ∈ nodes_of done)
 onto-mem n [] done m = inr m
@@ -68,30 +62,7 @@ module _ (v : View) where
       omega arith
 
 -- the state before the walk agrees with no entries
-pub begun : (v : View) (bits : List ℕ) (w : Walk) → v.total ≤ 8 * length bits → Marks bits (0 ∷ map_chain v) → w.nodes ≡ suc (length (map_chain v))
-    → w.last ≡ replicate 8 0 → w.records ≡ 0 → w.first ≡ 0 → w.number ≡ 0 → Agrees v (state bits w) []
-begun v bits w long marks nodes last records first number =
-    record {
-      long = long;
-      wide = ap length last ∙ length-replicate {A = ℕ} 8 0;
-      marks = marks;
-      lasts = λ d h. ap (λ (l : List ℕ). get_or l d 0) last ∙ get_or-replicate 8 d 0 0 h;
-      first = first;
-      records = records;
-      nodes = nodes;
-      number = number;
-    }
-
-module _ (form : Form) (img bits : List ℕ) (x : Walk) where
-  -- a walk that ended, with what the tests at its end found
-  pub ended : (t : Verdict) → Agrees (view form img) (state bits x) (onto (tree_entries (view form img) (view form img).depth) []) → t ≡ walk (view form img) → Ends form img bits (stopped x t)
-  unfolding stopped
-  ended t a e = record { verdict = e; marks = λ z. marks-reached (view form img) _ a.marks; count = λ z. a.nodes ∙ size-reached (view form img) }
-
-  -- a walk that met a fault
-  pub faulted : (x.number ≡ 0 → ⊥) → fails x.number x.place ≡ walk (view form img) → Ends form img bits x
-  faulted n e = record { verdict = e; marks = λ z. absurd (n z); count = λ z. absurd (n z) }
-
--- a tree of no levels has no entries
-pub no-levels : (v : View) (s : State) → v.depth ≡ 0 → Agrees v s [] → Agrees v s (onto (tree_entries v v.depth) [])
-no-levels v s e a = subst (λ (k : ℕ). Agrees v s (onto (tree_entries v k) [])) (sym e) a
+pub begun : (v : View) (b : List ℕ) (nodes : ℕ) → v.total ≤ 8 * length b → Marks b (0 ∷ map_chain v) → nodes ≡ suc (length (map_chain v))
+    → Agrees v b (record { last = replicate 8 0; records = 0; first = 0; nodes = nodes }) []
+begun v b nodes long marks count =
+    record { long = long; wide = length-replicate {A = ℕ} 8 0; marks = marks; lasts = λ d h. get_or-replicate 8 d 0 0 h; first = refl; records = refl; nodes = count }

@@ -1,9 +1,9 @@
 -- The steps along the entries below a node, in the code's terms: from record i to i + 1, of c.
 -- Assumes nothing.
-use mathlib.Core.Path.{◌≡◌, refl, ap, ◌∙◌}
+use mathlib.Core.Path.{◌≡◌, refl, sym, ap, ◌∙◌}
 use mathlib.Core.Option.{Option}
 use mathlib.Core.List.{List, [], ◌∷◌, ◌++◌}
-use Prim.Native.Nat.{ℕ, suc, ◌+◌, ◌-◌, ◌<◌, ◌≤◌}
+use Prim.Native.Nat.{ℕ, zero, suc, ◌+◌, ◌-◌, ◌<◌, ◌≤◌}
 use native.Mathlib.Omega.{arith}
 use native.Mathlib.Numerals.{add-one}
 use Rattle.btree.specs.declared.Place.{Place}
@@ -11,13 +11,14 @@ use Rattle.btree.specs.Lists.{span}
 use Rattle.btree.specs.Tree.{View}
 use Rattle.btree.specs.Walk.{Entry, entries, kid}
 use Rattle.btree.proofs.Left.{one_more, none_left}
-use Rattle.walk.specs.declared.visit.Pointer.{Pointer}
+use Rattle.step.specs.declared.pointer.Pointer.{Pointer}
 use Rattle.frame.specs.declared.form.Form.{Form}
 use Rattle.formats.specs.Format.{view}
 use Rattle.order.specs.Bound.{bound}
 use Rattle.step.specs.State.{State, step, steps}
-use Rattle.step.proofs.Lands.{step-stuck}
-use Rattle.walk.specs.Visit.{Points}
+use Rattle.step.specs.State.State.{stopped}
+use Rattle.btree.specs.declared.Verdict.{Verdict}
+use Rattle.walk.specs.Visit.{Points, entries_at}
 
 module _ (v : View) where
   pub steps-append : (s : State) (xs ys : List Entry) → steps v s (xs ++ ys) ≡ steps v (steps v s xs) ys
@@ -25,15 +26,24 @@ module _ (v : View) where
   steps-append s [] ys = refl
   steps-append s (x ∷ xs) ys = steps-append (step v s x) xs ys
 
-  pub steps-stuck : (s : State) (es : List Entry) → (s.rest.number ≡ 0 → ⊥) → steps v s es ≡ s
-  unfolding steps
-  steps-stuck s [] h = refl
-  steps-stuck s (x ∷ es) h = rw (step-stuck v s x h) (steps-stuck s es h)
+  pub steps-stopped : (b : List ℕ) (t : Verdict) (es : List Entry) → steps v (stopped b t) es ≡ stopped b t
+  unfolding steps step
+  steps-stopped b t [] = refl
+  steps-stopped b t (x ∷ es) = steps-stopped b t es
 
   module _ (s : State) (b d : ℕ) (from : Place) (lo hi : Option ℕ) (n : ℕ) where
     pub steps-leaf : b ≡ 0 → steps v s (entries v b d from lo hi n) ≡ step v s (record { node = n; from = from; level = d; low = lo; high = hi })
     unfolding steps
     steps-leaf e = rw e
+
+    -- where the node stops the walk, what is below it does not matter
+    pub steps-first : (bits : List ℕ) (t : Verdict) → stopped bits t ≡ step v s (record { node = n; from = from; level = d; low = lo; high = hi }) → stopped bits t ≡ steps v s (entries v b d from lo hi n)
+    unfolding steps
+    steps-first bits t e = go b
+      where
+        go : (k : ℕ) → stopped bits t ≡ steps v s (entries v k d from lo hi n)
+        go zero = e
+        go (suc k) = sym (steps-stopped bits t (span 0 (v.count n) (kid v k d hi n))) ∙ ap (λ (x : State). steps v x (span 0 (v.count n) (kid v k d hi n))) e
 
     pub steps_index : (b ≡ 0 → ⊥)
         → steps v s (entries v b d from lo hi n)
@@ -46,10 +56,10 @@ module _ (v : View) where
   kids-end f s c i h = rw (none_left c i h)
 
 module _ (form : Form) (img : List ℕ) where
-  pub kids-on : (h d n high : ℕ) (s r : State) (c i : ℕ) (p : Pointer) → i < c → Points form img n i high p
-      → r ≡ steps (view form img) s (entries (view form img) h (d + 1) p.from (bound form img p.low) (bound form img p.high) p.child)
-      → steps (view form img) s (span i (c - i) (kid (view form img) h d (bound form img high) n)) ≡ steps (view form img) r (span (i + 1) (c - (i + 1)) (kid (view form img) h d (bound form img high) n))
-  kids-on h d n high s r c i p l q e =
-      ap (λ (k : ℕ). steps (view form img) s (span i k (kid (view form img) h d (bound form img high) n))) (one_more c i l)
-      ∙ steps-append (view form img) s (kid (view form img) h d (bound form img high) n i) (span (suc i) (c - (i + 1)) (kid (view form img) h d (bound form img high) n))
-      ∙ rw (e, q.child, q.from, q.low, q.under, add-one d, add-one i)
+  pub kids-on : (h : ℕ) (e : Pointer) (s r : State) (c i : ℕ) (p : Pointer) → i < c → Points form img e i p → r ≡ steps (view form img) s (entries_at form img h p)
+      → steps (view form img) s (span i (c - i) (kid (view form img) h e.level (bound form img e.high) e.node))
+      ≡ steps (view form img) r (span (i + 1) (c - (i + 1)) (kid (view form img) h e.level (bound form img e.high) e.node))
+  kids-on h e s r c i p l q is =
+      ap (λ (k : ℕ). steps (view form img) s (span i k (kid (view form img) h e.level (bound form img e.high) e.node))) (one_more c i l)
+      ∙ steps-append (view form img) s (kid (view form img) h e.level (bound form img e.high) e.node i) (span (suc i) (c - (i + 1)) (kid (view form img) h e.level (bound form img e.high) e.node))
+      ∙ rw (is, q.child, q.from, q.level, q.low, q.under, add-one i)

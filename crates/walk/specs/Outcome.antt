@@ -1,12 +1,13 @@
 -- What the tests of the tree ask and give.
 -- Assumes nothing.
-use Rattle.std.specs.Prelude.{◌≡◌, List, ◌∷◌, ℕ, suc, ◌≤◌, length}
+use Rattle.std.specs.Prelude.{◌≡◌, List, ◌∷◌, ℕ, suc, ◌≤◌, length, Result, IfOk, OnOk}
 use Rattle.btree.specs.Tree.{map_chain, reached}
-use Rattle.btree.specs.Walk.{fails, walk}
+use Rattle.btree.specs.declared.fault.Fault.{Fault}
+use Rattle.btree.specs.Faults.{verdict_of}
+use Rattle.btree.specs.Walk.{walk}
 use Rattle.frame.specs.declared.form.Form.{Form}
 use Rattle.chain.specs.Frame.{Marks}
 use Rattle.formats.specs.Format.{view}
-use Rattle.step.specs.declared.state.Walk.{Walk}
 use Rattle.step.specs.Ready.{Walkable}
 
 -- what the tests of the tree ask: the bits and the count are those of the header and the map chain
@@ -17,7 +18,7 @@ pub record Begins (form : Form) (img bits : List ℕ) (nodes : ℕ) : Type 0 whe
   pub small : nodes ≤ 65536
 
 -- what they give: the first fault, or else the bits and the count of all nodes reached
-pub record Ends (form : Form) (img bits : List ℕ) (r : Walk) : Type 0 where
-  pub verdict : fails r.number r.place ≡ walk (view form img)
-  pub marks : r.number ≡ 0 → Marks bits (reached (view form img))
-  pub count : r.number ≡ 0 → r.nodes ≡ length (reached (view form img))
+pub record Ends (form : Form) (img bits : List ℕ) (r : Result ℕ Fault) : Type 0 where
+  pub verdict : verdict_of r ≡ walk (view form img)
+  pub marks : OnOk r (Marks bits (reached (view form img)))
+  pub count : IfOk r (λ nodes. nodes ≡ length (reached (view form img)))

@@ -20,6 +20,9 @@ use Rattle.blocks.specs.Work.{catalog_number}
 use Rattle.blocks.proofs.Order.{block-unasked, block-lawful, number-unasked, number-sound, number-fault}
 use Rattle.blocks.proofs.Left.{unasked-left, looked-left, extents-untouched, extents-left}
 use Rattle.blocks.proofs.Images.{block-says}
+use Rattle.btree.specs.Places.{image_start}
+use Rattle.coverings.specs.declared.answers.Source.TheVariants.{Catalog}
+use Rattle.coverings.specs.declared.answers.Mapping.TheVariants as mapping-kind
 use Rattle.blocks.proofs.block.Goals as goal
 use Rattle.blocks.proofs.block.Goals.{After-lookup-found, After-shared_slice_known-2-1, Else-not-is_lawful, Start, Then-not-is_lawful}
 
@@ -73,7 +76,7 @@ pub returns-then-not-is_lawful : goal.returns-then-not-is_lawful
 returns-then-not-is_lawful c =
     let x = c.args in
     let n = unlawful (goal.at.returns-then-not-is_lawful c).Then-not-is_lawful in
-    let e = sym (block-unasked x.catalog.now x.extents.now (length x.catalog_work.now) (length x.extents_work.now) (key_of (goal.at.returns-then-not-is_lawful c).Start) x.fork x.file_block n) in
+    let e = ap (λ (k : ℕ). mapping-kind.Refused Catalog k image_start) c.number.ensures ∙ sym (block-unasked x.catalog.now x.extents.now (length x.catalog_work.now) (length x.extents_work.now) (key_of (goal.at.returns-then-not-is_lawful c).Start) x.fork x.file_block n) in
     let z = number-unasked x.catalog.now (length x.catalog_work.now) (key_of (goal.at.returns-then-not-is_lawful c).Start) x.fork n in record {
       equal = e;
       says = told (goal.at.returns-then-not-is_lawful c).After-shared_slice_known-2-1 _ e;
@@ -95,7 +98,7 @@ returns-in-Found c =
 
 pub returns-in-Absent : goal.returns-in-Absent
 returns-in-Absent c =
-    let e = c.after_check.ensures.equal ∙ answers (goal.at.returns-in-Absent c).After-lookup-found _ c.in-Absent.is in record {
+    let e = (rw c.number-in-Absent.ensures at c.after_check.ensures.equal) ∙ answers (goal.at.returns-in-Absent c).After-lookup-found _ c.in-Absent.is in record {
       equal = e;
       says = told (goal.at.returns-in-Absent c).After-shared_slice_known-2-1 _ e;
       catalog_leaves = leaves (goal.at.returns-in-Absent c).After-lookup-found;

@@ -6,6 +6,6 @@ use Rattle.capi.proofs.hfs_extents_check.Goals as goal
 pub returns : goal.returns
 returns c =
     let t = c.check in record {
-      numbers = c.verdict_numbers.ensures ∙ ap reply_numbers t.ensures.equal;
+      numbers = c.verdict_numbers.ensures ∙ ap reply_numbers (c.verdict.ensures ∙ t.ensures.equal);
       leaves = rw t.ensures.equal at t.ensures.leaves;
     }

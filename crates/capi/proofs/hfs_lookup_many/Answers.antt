@@ -6,7 +6,7 @@ use Rattle.capi.proofs.hfs_lookup_many.Goals as goal
 pub returns : goal.returns
 returns c =
     let t = c.lookup_many in record {
-      numbers = c.verdict_numbers.ensures ∙ ap reply_numbers t.ensures.equal;
+      numbers = c.verdict_numbers.ensures ∙ ap reply_numbers (c.verdict.ensures ∙ t.ensures.equal);
       written = t.ensures.written;
       leaves = rw t.ensures.equal at t.ensures.leaves;
     }

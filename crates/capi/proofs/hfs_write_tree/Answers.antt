@@ -5,6 +5,6 @@ use Rattle.capi.proofs.hfs_write_tree.Goals as goal
 
 pub returns : goal.returns
 returns c = let t = c.write_tree in record {
-  numbers = c.verdict_numbers.ensures ∙ ap reply_numbers t.ensures.equal;
+  numbers = c.verdict_numbers.ensures ∙ ap reply_numbers (c.verdict.ensures ∙ t.ensures.equal);
   bytes = t.ensures.written;
 }

@@ -10,22 +10,20 @@ use Rattle.catalog.specs.Asked.{of_key}
 use Rattle.catalog.specs.Answers.{answered}
 use Rattle.catalog.specs.Demands.{LookupSays}
 use Rattle.catalog.proofs.Asked.{catalog-fair, means, asked-lookup}
-use Rattle.catalog.proofs.Entries.{plain-answer}
 use Rattle.catalog.proofs.Demands.{lookup-says}
 use Rattle.catalog.proofs.lookup.Goals as goal
 
-pub lookup-found-requires : goal.lookup-found-requires
-lookup-found-requires c = catalog-fair _ c.of_catalog.ensures
-
-pub returns : goal.returns
-returns c =
+pub returns-clause-equal : goal.returns-clause-equal
+returns-clause-equal c =
     let a = c.args in
     let img = a.image.now in
     let q = asked a.parent a.name.now in
-    let form = c.of_catalog.ensures in
-    let e = asked-lookup _ form img q _ c.is_short-lawful.ensures c.sort_key.result c.sort_key.ensures _ _ c.lookup-found.ensures.equal in
-    let r = ap (λ (x : Answer). record { answer = x; path = c.lookup-found.result.path; compared = c.lookup-found.result.compared }) c.answered_as.ensures ∙ ap (answered img) e in record {
-      equal = r;
-      says = subst (λ (x : Lookup). LookupSays img q (length a.work.now) x) (sym r) (lookup-says img q _ _ (demands.lookup-says catalog (catalog-fair catalog refl) img (of_key q) _ (means img q)));
-      leaves = rw (c.answered_as.ensures, plain-answer img c.lookup-found.result.answer) (rw form at c.lookup-found.ensures.leaves);
-    }
+    let e = asked-lookup _ c.of_catalog.ensures img q _ c.is_short-lawful.ensures c.sort_key.result c.sort_key.ensures _ _ c.lookup-found.ensures.equal in
+    ap (λ (x : Answer). record { answer = x; path = c.lookup-found.result.path; compared = c.lookup-found.result.compared }) c.answered_as.ensures ∙ ap (answered img) e
+
+pub returns-clause-says : goal.returns-clause-says
+returns-clause-says c =
+    let a = c.args in
+    let img = a.image.now in
+    let q = asked a.parent a.name.now in
+    subst (λ (x : Lookup). LookupSays img q (length a.work.now) x) (sym (returns-clause-equal c)) (lookup-says img q _ _ (demands.lookup-says catalog (catalog-fair catalog refl) img (of_key q) _ (means img q)))

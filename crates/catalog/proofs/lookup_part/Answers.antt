@@ -3,11 +3,8 @@ use mathlib.Core.Path.{subst}
 use Rattle.catalog_keys.specs.Key.{asked}
 use Rattle.reader.specs.Reader.{Part}
 use Rattle.catalog.specs.Demands.{PartOf}
-use Rattle.catalog.proofs.Asked.{catalog-fair, found_part-asked, found-leaves}
+use Rattle.catalog.proofs.Asked.{found_part-asked, found-leaves}
 use Rattle.catalog.proofs.lookup_part.Goals as goal
-
-pub lookup_part-requires : goal.lookup_part-requires
-lookup_part-requires c = catalog-fair _ c.of_catalog.ensures
 
 pub returns : goal.returns
 returns c =

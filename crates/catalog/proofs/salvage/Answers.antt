@@ -7,12 +7,9 @@ use Rattle.catalog.specs.declared.answers.Salvage.{Salvage}
 use Rattle.catalog.specs.Asked.{of_key}
 use Rattle.catalog.specs.Answers.{seen_as}
 use Rattle.catalog.specs.Demands.{SalvageSays}
-use Rattle.catalog.proofs.Asked.{catalog-fair, means, asked-salvage}
+use Rattle.catalog.proofs.Asked.{means, asked-salvage}
 use Rattle.catalog.proofs.Demands.{salvage-says}
 use Rattle.catalog.proofs.salvage.Goals as goal
-
-pub salvage-seen-requires : goal.salvage-seen-requires
-salvage-seen-requires c = catalog-fair _ c.of_catalog.ensures
 
 pub returns : goal.returns
 returns c =

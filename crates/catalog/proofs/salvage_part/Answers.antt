@@ -3,11 +3,8 @@ use mathlib.Core.Path.{subst}
 use Rattle.catalog_keys.specs.Key.{asked}
 use Rattle.reader.specs.Reader.{Part}
 use Rattle.catalog.specs.Demands.{PartOf}
-use Rattle.catalog.proofs.Asked.{catalog-fair, seen-part}
+use Rattle.catalog.proofs.Asked.{seen-part}
 use Rattle.catalog.proofs.salvage_part.Goals as goal
-
-pub salvage_part-requires : goal.salvage_part-requires
-salvage_part-requires c = catalog-fair _ c.of_catalog.ensures
 
 pub returns : goal.returns
 returns c =

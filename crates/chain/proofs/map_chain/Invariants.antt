@@ -1,12 +1,9 @@
 -- `map_chain` meets its contract. The loop's invariant: what is left from `last` on gives what all of the chain gives. Assumes nothing.
-use mathlib.Core.Path.{◌≡◌}
-use lib.ListN.{length}
+use Prim.Native.Nat.{◌-◌}
+use Rattle.btree.specs.Header.{total_of}
 use Rattle.frame.specs.Form.{layout_of}
 use Rattle.chain.proofs.Links.{Passed}
 use Rattle.chain.proofs.map_chain.Given as goal
 
-abbrev pub invariant-loop-left : goal.invariant-loop-left
-invariant-loop-left l = Passed (layout_of l.form) l.image l.bits l.nodes l.last l.left × (length l.bits ≡ length l.initial.bits)
-
-abbrev pub decreases-loop-left : goal.decreases-loop-left
-decreases-loop-left l = l.left
+abbrev pub invariant-loop : goal.invariant-loop
+invariant-loop l = Passed (layout_of l.form) l.image l.bits l.nodes l.last (total_of l.image - l.counter)

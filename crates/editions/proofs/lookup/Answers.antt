@@ -2,13 +2,13 @@
 use mathlib.Core.Path.{refl, sym, ap, ◌∙◌}
 use mathlib.Core.List.Memᴰ
 use native.Mathlib.Omega.{arith}
-use Rattle.btree.proofs.Decisions.{said, unsaid}
 use Rattle.btree.specs.declared.Lookup.{Lookup}
-use Rattle.btree.specs.declared.Verdict.{Verdict}
+use Rattle.btree.specs.declared.fault.Fault.{Fault}
+use Rattle.btree.specs.Faults.{number_of}
 use Rattle.btree.specs.Numbers.{lookup_reply}
 use Rattle.btree.specs.Search.{refused}
 use Rattle.btree.proofs.Work.{left-untouched, leaves}
-use Rattle.frame.specs.Form.{form_of, Listed, dec_listed, layout_of}
+use Rattle.frame.specs.Form.{form_of, layout_of}
 use Rattle.frame.proofs.Forms.{fair}
 use Rattle.formats.specs.Format.{format_of}
 use Rattle.extent_keys.specs.Key.{asked}
@@ -19,13 +19,10 @@ use Rattle.editions.specs.Asked.{of_key}
 use Rattle.editions.proofs.Asked.{means, asked-lookup}
 use Rattle.editions.proofs.Editions.{lookup-listed, lookup-unlisted, says-lookup, refuses-lookup}
 use Rattle.editions.proofs.lookup.Goals as goal
-use Rattle.editions.proofs.lookup.Goals.{After-shared_slice_known-1, Else-not-is_listed, Start, Then-not-is_listed}
+use Rattle.editions.proofs.lookup.Goals.{After-shared_slice_known-1, Start}
 
-listed : (c : Else-not-is_listed) → let a = c.args in Listed (form_of a.edition a.size)
-listed c = said (dec_listed _) (sym c.is_listed.ensures ∙ c.if-not-is_listed.false)
-
-unlisted : (c : Then-not-is_listed) → let a = c.args in Listed (form_of a.edition a.size) → ⊥
-unlisted c = unsaid (dec_listed _) (sym c.is_listed.ensures ∙ c.if-not-is_listed.true)
+abbrev refuse : Fault → Lookup
+refuse f = refused (number_of f.refusal) f.place
 
 bytes : (c : After-shared_slice_known-1) → Bytes c.args.image.now
 bytes c i = omega (arith, c.shared_slice_known-1.given i)
@@ -33,30 +30,31 @@ bytes c i = omega (arith, c.shared_slice_known-1.given i)
 key-in_range : (c : Start) → InRange (asked c.args.file c.args.fork c.args.start)
 key-in_range c = record { fork = omega arith; start = omega arith }
 
-pub returns-then-not-is_listed : goal.returns-then-not-is_listed
-returns-then-not-is_listed c =
+pub returns-in-None : goal.returns-in-None
+returns-in-None c =
     let a = c.args in
     let f = form_of a.edition a.size in
-    let e = c.refusal.ensures ∙ ap (λ (x : Verdict). refused x.number x.place) c.at_node.ensures in record {
-      equal = e ∙ sym (lookup-unlisted f a.image.now (unlisted (goal.at.returns-then-not-is_listed c).Then-not-is_listed) _ _);
-      says = refuses-lookup f a.image.now (unlisted (goal.at.returns-then-not-is_listed c).Then-not-is_listed) _ _ _ e;
+    let u = c.in-None.ensures in
+    let e = c.refusal.ensures ∙ ap refuse c.at_node.ensures in record {
+      equal = e ∙ sym (lookup-unlisted f a.image.now u _ _);
+      says = refuses-lookup f a.image.now u _ _ _ e;
       leaves = rw e (leaves (layout_of f) _ (format_of f) 25 _ _ (sym (left-untouched (layout_of f) _ (format_of f) 25 _ (Memᴰ.head refl))));
     }
 
 pub lookup-requires : goal.lookup-requires
-lookup-requires c = fair _ (listed (goal.at.lookup-requires c).Else-not-is_listed)
+lookup-requires c = rw c.in-Some.ensures.1 (fair _ c.in-Some.ensures.0)
 
-pub returns : goal.returns
-returns c =
+pub returns-in-Some : goal.returns-in-Some
+returns-in-Some c =
     let a = c.args in
     let f = form_of a.edition a.size in
-    let b = bytes (goal.at.returns c).After-shared_slice_known-1 in
-    let l = listed (goal.at.returns c).Else-not-is_listed in
+    let b = bytes (goal.at.returns-in-Some c).After-shared_slice_known-1 in
+    let l = c.in-Some.ensures.0 in
     let q = asked a.file a.fork a.start in
-    let e = c.lookup.ensures.equal ∙ asked-lookup a.edition a.size a.image.now q _ _ c.is_lawful-lawful.ensures c.sort_key-key.ensures _ in
+    let e = (rw c.in-Some.ensures.1 at c.lookup.ensures.equal) ∙ asked-lookup a.edition a.size a.image.now q _ _ c.is_lawful-lawful.ensures c.sort_key-key.ensures _ in
     let never = never-25 f (fair f l) a.image.now (of_key f q) _ in record {
       equal = e ∙ sym (lookup-listed f a.image.now l _ _);
-      says = says-lookup f a.image.now l b q (key-in_range (goal.at.returns c).Start) _ _ (λ z. never (ap (λ (l : Lookup). (lookup_reply l.answer).number) (sym e) ∙ z))
-          (rw e (lookup-says f (fair f l) a.image.now (of_key f q) _ (means a.edition a.size a.image.now q b (key-in_range (goal.at.returns c).Start))));
-      leaves = c.lookup.ensures.leaves;
+      says = says-lookup f a.image.now l b q (key-in_range (goal.at.returns-in-Some c).Start) _ _ (λ z. never (ap (λ (l : Lookup). (lookup_reply l.answer).number) (sym e) ∙ z))
+          (rw e (lookup-says f (fair f l) a.image.now (of_key f q) _ (means a.edition a.size a.image.now q b (key-in_range (goal.at.returns-in-Some c).Start))));
+      leaves = rw c.in-Some.ensures.1 at c.lookup.ensures.leaves;
     }

@@ -1,18 +1,14 @@
--- `no_tree` meets its contract: each test that fails denies a field. Assumes nothing.
-use mathlib.Core.Path.{sym}
-use native.Mathlib.Omega.{arith}
-use Rattle.btree.proofs.Decisions.{says-no, says-equal}
+-- `no_tree` meets its contract: it is true exactly where all four fields are 0. Assumes nothing.
+use Rattle.std.proofs.Common.{arith}
 use Rattle.btree.specs.Tests.{dec_no_tree}
+use Rattle.btree.proofs.Faults.{says_if}
 use Rattle.header.proofs.no_tree.Goals as goal
 
-pub returns-then-be32-ne0 : goal.returns-then-be32-ne0
-returns-then-be32-ne0 c = sym (says-no (dec_no_tree _) (λ s. omega arith))
+pub returns-then-be32-eq0-3 : goal.returns-then-be32-eq0-3
+returns-then-be32-eq0-3 c =
+    says_if (dec_no_tree _) _
+    (λ e. record { root = grind arith; leaf_records = grind arith; first_leaf = grind arith; last_leaf = grind arith })
+    (λ s. grind arith)
 
-pub returns-then-be32-ne0-2 : goal.returns-then-be32-ne0-2
-returns-then-be32-ne0-2 c = sym (says-no (dec_no_tree _) (λ s. omega arith))
-
-pub returns-then-be32-ne0-3 : goal.returns-then-be32-ne0-3
-returns-then-be32-ne0-3 c = sym (says-no (dec_no_tree _) (λ s. omega arith))
-
-pub returns : goal.returns
-returns c = says-equal (dec_no_tree _) c.be32-4.result 0 (λ e. record { root = omega arith; leaf_records = omega arith; first_leaf = omega arith; last_leaf = omega arith }) (λ s. omega arith)
+pub returns-else-be32-eq0-3 : goal.returns-else-be32-eq0-3
+returns-else-be32-eq0-3 c = says_if (dec_no_tree _) _ (λ e. absurd (grind arith)) (λ s. grind arith)

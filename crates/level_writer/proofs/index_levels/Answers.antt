@@ -1,56 +1,48 @@
 -- `index_levels` meets its contract. Assumes nothing.
-use mathlib.Core.Path.{refl, sym, ap, ◌∙◌}
+use mathlib.Core.Path.{◌≡◌, ap, ◌∙◌}
+use Prim.Native.Nat.{suc, ◌+◌, ◌-◌, ◌/◌}
 use native.Mathlib.Omega.{arith}
+use lib.ListN.{length}
 use Rattle.put.specs.Put.{put}
-use Rattle.put.proofs.Laws.{turn, put-none}
+use Rattle.put.proofs.Laws.{turn, finish}
+use Rattle.level_writer.specs.Parts.{LevelIn}
 use Rattle.level_writer.proofs.Levels.{levels-on, levels-end, size-on, size-end, this-level, next-levels, levels-long}
-use borrow.Author.Rules.{rules}
 use Rattle.level_writer.proofs.index_levels.Goals as goal
+use Rattle.level_writer.proofs.index_levels.Goals.{In-loop-number}
 
-pub loop-left-init : goal.loop-left-init
-loop-left-init c = (refl, refl, refl, c.requires.1, refl)
+-- the levels that are left are this one and those above it
+left : (c : In-loop-number) → c.args.levels + 2 - c.loop-number.number ≡ suc (c.args.levels + 2 - (c.loop-number.number + 1))
+left c = omega arith
+
+-- the level of a turn is in its place
+here : (c : In-loop-number) → let l = c.loop-number in LevelIn (length c.args.target.now) l.a (length c.args.row.now) (l.lower + l.width) ((l.width + 34) / 35) l.lower l.width l.step
+here c = this-level _ _ (left c) _ _ _ _ _ _ c.loop-number.invariant.room
 
 pub overflow_add-first : goal.overflow_add-first
-overflow_add-first c =
-    let h = this-level _ _ c.loop-left.left _ _ _ _ c.loop-left-test.true c.loop-left.invariant.3 in
-    omega (arith, h.children)
-
-pub overflow_add-nodes : goal.overflow_add-nodes
-overflow_add-nodes c =
-    let h = this-level _ _ c.loop-left.left _ _ _ _ c.loop-left-test.true c.loop-left.invariant.3 in
-    omega (arith, h.children)
+overflow_add-first c = let h = here c in omega (arith, h.children)
 
 pub index_level-a-requires : goal.index_level-a-requires
 index_level-a-requires c =
-    let h = this-level _ _ c.loop-left.left _ _ _ _ c.loop-left-test.true c.loop-left.invariant.3 in
-    rw c.loop-left.invariant.4 h
+    let n : c.div_ceil-nodes.result ≡ (c.loop-number.width + 34) / 35 = omega arith in
+    rw (n, c.loop-number.auto.target) (here (goal.at.index_level-a-requires c).In-loop-number)
 
 pub overflow_mul-step : goal.overflow_mul-step
-overflow_mul-step c =
-    let h = this-level _ _ c.loop-left.left _ _ _ _ c.loop-left-test.true c.loop-left.invariant.3 in
-    omega (arith, h.near)
+overflow_mul-step c = let h = here (goal.at.overflow_mul-step c).In-loop-number in omega (arith, h.near)
 
-pub loop-left-preserved : goal.loop-left-preserved
-loop-left-preserved c =
-    let l = c.loop-left in
-    let u = c.loop-left-test.true in
-    let p = c.index_level-a.ensures in
-    let z = size-on l.left l.width u in (
-      search rules,
-      turn _ p ∙ ap (put l.target l.a) (levels-on _ l.left l.level l.lower l.width l.step u) ∙ l.invariant.1,
-      omega (arith, p.next, l.invariant.2),
-      rw p.next (next-levels _ _ l.left _ _ _ _ u l.invariant.3),
-      c.index_level-a.auto.target ∙ l.invariant.4,
-    )
-
-pub shape_of-target : goal.shape_of-target
-shape_of-target c = c.loop-left.invariant.4
+pub loop-number-preserved : goal.loop-number-preserved
+loop-number-preserved c =
+    let l = c.loop-number in
+    let n : c.div_ceil-nodes.result ≡ (l.width + 34) / 35 = omega arith in
+    let p = rw n at c.index_level-a.ensures in
+    let e = left (goal.at.loop-number-preserved c).In-loop-number in
+    rw n (record {
+      bytes = turn _ p ∙ ap (put l.target l.a) (levels-on _ _ e _ l.number l.lower l.width l.step) ∙ l.invariant.bytes;
+      place = omega (arith, p.next, l.invariant.place, size-on _ _ e l.width);
+      room = rw p.next (next-levels _ _ e _ _ _ _ _ _ l.invariant.room);
+    })
 
 pub returns : goal.returns
 returns c =
-    let l = c.loop-left in
-    record {
-      bytes = sym (put-none l.target l.a) ∙ ap (put l.target l.a) (sym (levels-end _ l.left l.level l.lower l.width l.step c.loop-left-test.false)) ∙ l.invariant.1;
-      next = omega (arith, l.invariant.2, size-end l.left l.width c.loop-left-test.false);
-      long = levels-long _ _ _ _ _ _ _ _ c.requires.1;
-    }
+    let l = c.loop-number in
+    let z : c.args.levels + 2 - l.number ≡ 0 = omega arith in
+    finish l.invariant.bytes (levels-end _ _ l.number l.lower l.width l.step z) (omega (arith, l.invariant.place, size-end _ l.width z)) (levels-long _ _ _ _ _ _ _ _ c.requires.1)

@@ -1,13 +1,10 @@
 -- `row_count` meets its contract. Assumes nothing.
-use mathlib.Core.Path.{sym, ◌∙◌}
+use Rattle.std.proofs.Common.{sym, ◌∙◌}
 use Rattle.btree.specs.Header.{view_of}
 use Rattle.extents.specs.Reader.{view}
 use Rattle.listing.proofs.Rows.{rows-counted}
 use Rattle.listing.proofs.row_count.Goals as goal
 
-pub returns : goal.returns
+pub returns-clause-whole : goal.returns-clause-whole
 unfolding view_of
-returns c = let e = c.be32.ensures in record {
-  equal = e;
-  whole = λ s. e ∙ sym (rows-counted (view c.args.image.now) s.tree s.totals);
-}
+returns-clause-whole c s = c.be32.ensures ∙ sym (rows-counted (view c.args.image.now) s.tree s.totals)

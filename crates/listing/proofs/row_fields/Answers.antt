@@ -1,12 +1,8 @@
 -- `row_fields` meets its contract. Assumes nothing.
-use Rattle.frame.specs.Form.{hfs, key_size}
-use Rattle.frame.proofs.Forms.{hfs-listed, fair}
+use Rattle.frame.specs.Form.{key_size}
 use Rattle.extent_keys.specs.Key.{key_at}
 use Rattle.listing.specs.Rows.{fields_of}
 use Rattle.listing.proofs.row_fields.Goals as goal
-
-pub record_at-key-requires : goal.record_at-key-requires
-record_at-key-requires c = rw c.of_hfs.ensures (fair hfs hfs-listed)
 
 pub returns : goal.returns
 unfolding fields_of key_at key_size

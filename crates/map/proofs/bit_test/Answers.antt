@@ -1,124 +1,105 @@
 -- `bit_test` meets its contract. The loop's invariant: what is left from `node` on gives what the whole map gives. Assumes nothing.
-use mathlib.Core.Path.{◌≡◌, refl, sym, ap, ◌∙◌}
-use mathlib.Core.Logic.{◌⊎◌, inl, inr}
-use mathlib.Core.Option.{some}
-use Prim.Native.Nat.{◌+◌, ◌-◌, ◌*◌, ◌≤◌, ◌<◌}
+use mathlib.Core.Path.{◌≡◌, refl, ap}
+use mathlib.Core.Logic.{inl, inr}
+use mathlib.Core.Option.{Option, some}
+use Prim.Native.Nat.{ℕ, ◌+◌, ◌-◌, ◌*◌, ◌≤◌, ◌<◌}
 use native.Mathlib.Omega.{arith}
 use lib.ListN.{length, take, drop, length-take, length-drop}
 use Rattle.image.specs.Bit.{bit_of}
+use Rattle.btree.specs.Header.{total_of}
 use Rattle.btree.specs.Image.{map_record}
 use Rattle.btree.specs.Tests.{lowest_wrong}
 use Rattle.frame.specs.Form.{header_map_of, node_map_of, layout_of}
-use Rattle.map.specs.Framed.{wrong_of}
-use Rattle.map.proofs.Searched.{in-part, few-nodes, node-map-inside, header-inside, header-range, header-found, searched-header, searched-end, record-inside, record-range, record-found, searched-more}
+use Rattle.map.proofs.Searched.{in-part, few-nodes, node-map-inside, header-range, header-found, searched-header, searched-end, record-inside, record-range, record-found, searched-more}
 use Rattle.map.proofs.bit_test.Goals as goal
-use Rattle.map.proofs.bit_test.Goals.{else-loop-left-test, then-loop-left-test+then-node-eq0, After-wrong_in, After-wrong_in-in-loop-left, At-loop-left, Else-node-eq0, In-At, In-At-wrong_in, Left-loop-left}
+use Rattle.map.proofs.bit_test.Goals.{After-wrong_in, After-wrong_in-in-loop, Else-node-eq0, In-Some, In-Some-wrong_in}
 
 -- what the search of the header's record says
-at-header : (c : After-wrong_in) → let a = c.args in
-    wrong_of c.wrong_in.result ≡ lowest_wrong (bit_of a.bits.now) 0 (take (header_map_of a.form) (drop 248 a.image.now))
-at-header c =
+at-header : {o : Option ℕ} (c : After-wrong_in) → let a = c.args in
+    o ≡ lowest_wrong (bit_of a.bits.now) 0 (take (248 + c.header_map-header.result - 248) (drop 248 a.image.now)) → o ≡ lowest_wrong (bit_of a.bits.now) 0 (take (header_map_of a.form) (drop 248 a.image.now))
+at-header c e =
     let h = c.header_map-header in
-    let a = c.args in
-    let e : 248 + h.result - 248 ≡ header_map_of a.form = omega (arith, h.ensures.0) in
-    in-part a.bits.now a.image.now 0 248 _ _ _ c.wrong_in.ensures refl e
+    let p : 248 + h.result - 248 ≡ header_map_of c.args.form = omega (arith, h.ensures.0) in
+    in-part _ c.args.image.now _ 248 _ _ _ e refl p
 
-in-header : (c : In-At) → let a = c.args in
-    some c.in-At.bit ≡ lowest_wrong (bit_of a.bits.now) 0 (take (header_map_of a.form) (drop 248 a.image.now))
-in-header c = ap wrong_of (sym c.in-At.is) ∙ at-header (goal.at.In-At c).After-wrong_in
+in-header : (c : In-Some) → let a = c.args in
+    some c.in-Some.bit ≡ lowest_wrong (bit_of a.bits.now) 0 (take (header_map_of a.form) (drop 248 a.image.now))
+in-header c = at-header (goal.at.In-Some c).After-wrong_in c.in-Some.ensures
 
-small-header : (c : In-At) → c.in-At.bit < 262144
-small-header c =
-    let p = c.requires in
-    let r = header-range _ _ p _ _ (in-header c) in omega (arith, p.fair.most)
+more : (c : Else-node-eq0) → 0 < total_of c.args.image.now - c.loop.counter
+more c = omega (arith, c.be32-total.ensures, c.loop-test.true)
 
-inside : (c : Else-node-eq0) → let a = c.args in c.loop-left.node * a.form.size + a.form.size ≤ length a.image.now
-inside c = record-inside _ _ c.requires _ _ _ _ c.loop-left.invariant c.loop-left-test.true c.if-node-eq0.false
+inside : (c : Else-node-eq0) → let a = c.args in c.loop.node * a.form.size + a.form.size ≤ length a.image.now
+inside c = record-inside _ _ c.requires _ _ _ _ c.loop.invariant (more c) c.if-node-eq0.false
 
--- what the search of a map node's record says
-at-record : (c : After-wrong_in-in-loop-left) → let a = c.args in
-    wrong_of c.wrong_in-in-loop-left.result ≡ lowest_wrong (bit_of a.bits.now) (8 * c.loop-left.first) (map_record (layout_of a.form) a.image.now c.loop-left.node)
-at-record c =
-    let s = c.start_of-at in
-    let m = c.node_map-each in
-    let e : s.result + 14 + m.result - (s.result + 14) ≡ node_map_of c.args.form = omega (arith, m.ensures.0) in
-    in-part _ _ _ _ _ _ _ c.wrong_in-in-loop-left.ensures (ap (λ n. n + 14) s.ensures.0) e
-
-in-record : (c : In-At-wrong_in) → let a = c.args in
-    some c.in-At-wrong_in.bit ≡ lowest_wrong (bit_of a.bits.now) (8 * c.loop-left.first) (map_record (layout_of a.form) a.image.now c.loop-left.node)
-in-record c = ap wrong_of (sym c.in-At-wrong_in.is) ∙ at-record (goal.at.In-At-wrong_in c).After-wrong_in-in-loop-left
-
-range : (c : In-At-wrong_in) → let k = c.in-At-wrong_in.bit in
-    (8 * c.loop-left.first ≤ k) × (k < 8 * c.loop-left.first + 8 * node_map_of c.args.form)
-range c =
-    record-range _ _ c.requires _ _ _ _ c.loop-left.invariant c.loop-left-test.true c.if-node-eq0.false _ (in-record c)
+few : (c : Else-node-eq0) → c.loop.first ≤ 2147516416
+few c = let f = few-nodes _ _ c.requires in let g = c.loop.invariant.few in omega arith
 
 -- a map node's record ends in its node
-ends : (c : At-loop-left) → 14 + c.node_map-each.result ≤ c.args.form.size
+ends : (c : Else-node-eq0) → 14 + c.node_map-each.result ≤ c.args.form.size
 ends c = omega (arith, node-map-inside _ _ c.requires, c.node_map-each.ensures.0)
 
-few : (c : At-loop-left) → c.loop-left.first + 32768 * c.loop-left.left ≤ 2147516416
-few c = let f = few-nodes _ _ c.requires in let g = c.loop-left.invariant.few in omega arith
+-- what the search of a map node's record says
+at-record : {o : Option ℕ} (c : After-wrong_in-in-loop) → let a = c.args in let s = c.start_of-at.result in
+    o ≡ lowest_wrong (bit_of a.bits.now) (8 * c.loop.first) (take (s + 14 + c.node_map-each.result - (s + 14)) (drop (s + 14) a.image.now))
+    → o ≡ lowest_wrong (bit_of a.bits.now) (8 * c.loop.first) (map_record (layout_of a.form) a.image.now c.loop.node)
+at-record c e =
+    let s = c.start_of-at in
+    let m = c.node_map-each in
+    let p : s.result + 14 + m.result - (s.result + 14) ≡ node_map_of c.args.form = omega (arith, m.ensures.0) in
+    in-part _ _ _ _ _ _ _ e (ap (λ n. n + 14) s.ensures.0) p
 
-over : (c : Left-loop-left) → (c.loop-left.left ≡ 0) ⊎ (c.loop-left.node ≡ 0)
-over c = elim c.loop-left-test.branch [ else-loop-left-test w ↦ inl (omega arith) | then-loop-left-test+then-node-eq0 w ↦ inr w.if-node-eq0.true ]
+in-record : (c : In-Some-wrong_in) → let a = c.args in
+    some c.in-Some-wrong_in.bit ≡ lowest_wrong (bit_of a.bits.now) (8 * c.loop.first) (map_record (layout_of a.form) a.image.now c.loop.node)
+in-record c = at-record (goal.at.In-Some-wrong_in c).After-wrong_in-in-loop c.in-Some-wrong_in.ensures
 
-pub slice_bounds-wrong_in-end : goal.slice_bounds-wrong_in-end
-slice_bounds-wrong_in-end c = let h = header-inside _ _ c.requires in omega (arith, c.header_map-header.ensures.0)
-
-pub wrong_in-requires : goal.wrong_in-requires
-wrong_in-requires c = (simp (length-take, length-drop) (omega (arith, c.header_map-header.ensures.1)), omega arith)
-
-pub overflow_add-bit : goal.overflow_add-bit
-overflow_add-bit c = let r = small-header (goal.at.overflow_add-bit c).In-At in omega arith
+range : (c : In-Some-wrong_in) → let k = c.in-Some-wrong_in.bit in
+    (8 * c.loop.first ≤ k) × (k < 8 * c.loop.first + 8 * node_map_of c.args.form)
+range c =
+    record-range _ _ c.requires _ _ _ _ c.loop.invariant (more (goal.at.In-Some-wrong_in c).Else-node-eq0) c.if-node-eq0.false _ (in-record c)
 
 pub overflow_cast-bit : goal.overflow_cast-bit
-overflow_cast-bit c = let r = small-header (goal.at.overflow_cast-bit c).In-At in omega arith
+overflow_cast-bit c = let r = header-range _ _ c.requires _ _ (in-header c) in omega (arith, c.requires.fair.most)
 
-pub returns-in-At : goal.returns-in-At
-returns-in-At c = c.at_byte.ensures ∙ header-found _ _ c.requires _ _ (in-header (goal.at.returns-in-At c).In-At)
+pub returns-in-Some : goal.returns-in-Some
+returns-in-Some c = rw c.at_byte.ensures (header-found _ _ c.requires _ _ (in-header (goal.at.returns-in-Some c).In-Some))
 
-pub loop-left-init : goal.loop-left-init
-loop-left-init c =
-    rw (c.forward_of-node.ensures, c.be32-left.ensures, c.header_map-header.ensures.0)
-    (searched-header _ _ c.requires _ (ap wrong_of (sym c.in_default.is) ∙ at-header (goal.at.loop-left-init c).After-wrong_in))
+pub loop-init : goal.loop-init
+loop-init c =
+    let e : total_of c.args.image.now - 0 ≡ total_of c.args.image.now = omega arith in
+    rw (c.forward_of-node.ensures, c.header_map-header.ensures.0, e)
+    (searched-header _ _ c.requires _ (at-header (goal.at.loop-init c).After-wrong_in c.in_default.ensures))
 
-pub overflow_add-at : goal.overflow_add-at
-overflow_add-at c = omega (arith, c.start_of-at.ensures.1)
+pub slice_bounds-wrong_in-end-in-loop : goal.slice_bounds-wrong_in-end-in-loop
+slice_bounds-wrong_in-end-in-loop c =
+    let h = (goal.at.slice_bounds-wrong_in-end-in-loop c).Else-node-eq0 in
+    let i = inside h in let e = ends h in omega (arith, c.start_of-at.ensures.0)
 
-pub overflow_add-at-in-loop-left : goal.overflow_add-at-in-loop-left
-overflow_add-at-in-loop-left c = let e = ends (goal.at.overflow_add-at-in-loop-left c).At-loop-left in omega (arith, c.start_of-at.ensures.1, c.requires.fair.most)
-
-pub slice_bounds-wrong_in-end-in-loop-left : goal.slice_bounds-wrong_in-end-in-loop-left
-slice_bounds-wrong_in-end-in-loop-left c = let h = inside (goal.at.slice_bounds-wrong_in-end-in-loop-left c).Else-node-eq0 in let e = ends (goal.at.slice_bounds-wrong_in-end-in-loop-left c).At-loop-left in omega (arith, c.start_of-at.ensures.0)
-
-pub wrong_in-requires-in-loop-left : goal.wrong_in-requires-in-loop-left
-wrong_in-requires-in-loop-left c =
-    let f = few (goal.at.wrong_in-requires-in-loop-left c).At-loop-left in
+pub wrong_in-requires-in-loop : goal.wrong_in-requires-in-loop
+wrong_in-requires-in-loop c =
+    let f = few (goal.at.wrong_in-requires-in-loop c).Else-node-eq0 in
     (simp (length-take, length-drop) (omega (arith, c.node_map-each.ensures.1)), omega arith)
 
-pub overflow_sub-bit : goal.overflow_sub-bit
-overflow_sub-bit c = let (l, r) = range (goal.at.overflow_sub-bit c).In-At-wrong_in in omega arith
+pub overflow_sub-offset : goal.overflow_sub-offset
+overflow_sub-offset c = let (l, r) = range c in omega arith
 
-pub overflow_add-bit-in-At-wrong_in : goal.overflow_add-bit-in-At-wrong_in
-overflow_add-bit-in-At-wrong_in c = let (l, r) = range (goal.at.overflow_add-bit-in-At-wrong_in c).In-At-wrong_in in omega (arith, ends (goal.at.overflow_add-bit-in-At-wrong_in c).At-loop-left, c.requires.fair.most)
+pub overflow_cast-offset : goal.overflow_cast-offset
+overflow_cast-offset c = let (l, r) = range c in omega (arith, ends (goal.at.overflow_cast-offset c).Else-node-eq0, c.node_map-each.ensures.0, c.requires.fair.most)
 
-pub overflow_cast-bit-in-At-wrong_in : goal.overflow_cast-bit-in-At-wrong_in
-overflow_cast-bit-in-At-wrong_in c = let (l, r) = range (goal.at.overflow_cast-bit-in-At-wrong_in c).In-At-wrong_in in omega (arith, ends (goal.at.overflow_cast-bit-in-At-wrong_in c).At-loop-left, c.requires.fair.most)
+pub returns-in-Some-wrong_in : goal.returns-in-Some-wrong_in
+returns-in-Some-wrong_in c =
+    rw c.at_byte-in-Some-wrong_in.ensures
+    (record-found _ _ c.requires _ _ _ _ c.loop.invariant (more (goal.at.returns-in-Some-wrong_in c).Else-node-eq0) c.if-node-eq0.false _ (in-record (goal.at.returns-in-Some-wrong_in c).In-Some-wrong_in))
 
-pub returns-in-At-wrong_in : goal.returns-in-At-wrong_in
-returns-in-At-wrong_in c =
-    c.at_byte-in-At-wrong_in.ensures
-    ∙ record-found _ _ c.requires _ _ _ _ c.loop-left.invariant c.loop-left-test.true c.if-node-eq0.false _ (in-record (goal.at.returns-in-At-wrong_in c).In-At-wrong_in)
+pub loop-preserved : goal.loop-preserved
+loop-preserved c =
+    let e : total_of c.args.image.now - (c.loop.counter + 1) ≡ total_of c.args.image.now - c.loop.counter - 1 = omega arith in
+    rw e
+    (searched-more _ _ c.requires _ _ _ _ c.loop.invariant (more (goal.at.loop-preserved c).Else-node-eq0) c.if-node-eq0.false
+    (omega (arith, c.node_map-each.ensures.0)) c.forward_of-node-in-loop.ensures (at-record (goal.at.loop-preserved c).After-wrong_in-in-loop c.in_default-wrong_in.ensures))
 
-pub overflow_add-first : goal.overflow_add-first
-overflow_add-first c =
-    let f = few (goal.at.overflow_add-first c).At-loop-left in omega (arith, c.node_map-each.ensures.1)
+pub returns-after-loop : goal.returns-after-loop
+returns-after-loop c = searched-end _ _ c.requires _ _ _ _ c.loop.invariant (inl (omega (arith, c.be32-total.ensures)))
 
-pub loop-left-preserved : goal.loop-left-preserved
-loop-left-preserved c =
-    searched-more _ _ c.requires _ _ _ _ c.loop-left.invariant c.loop-left-test.true c.if-node-eq0.false
-    (omega (arith, c.node_map-each.ensures.0)) c.forward_of-node-in-loop-left.ensures (ap wrong_of (sym c.in_default-wrong_in.is) ∙ at-record (goal.at.loop-left-preserved c).After-wrong_in-in-loop-left)
-
-pub returns : goal.returns
-returns c = c.at_node.ensures ∙ searched-end _ _ c.requires _ _ _ _ c.loop-left.invariant (over (goal.at.returns c).Left-loop-left)
+pub returns-then-node-eq0 : goal.returns-then-node-eq0
+returns-then-node-eq0 c = searched-end _ _ c.requires _ _ _ _ c.loop.invariant (inr c.if-node-eq0.true)

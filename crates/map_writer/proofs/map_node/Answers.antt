@@ -7,5 +7,5 @@ use Rattle.map_writer.proofs.map_node.Goals as goal
 pub returns : goal.returns
 unfolding map_node
 returns c =
-    same (map-linked _ _ c.link-forward.result c.link-forward.ensures _)
+    same (map-linked _ _ c.link.result c.link.ensures _)
     (then c.describe-a.ensures (then c.map_part-b.ensures (then c.number16-c.ensures c.number16.ensures)))

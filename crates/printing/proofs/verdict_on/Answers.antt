@@ -10,6 +10,7 @@ use Rattle.printing.proofs.verdict_on.Goals as goal
 
 pub returns : goal.returns
 returns c =
-    c.check.ensures.equal
+    c.verdict.ensures
+    ∙ c.check.ensures.equal
     ∙ checked-else (layout_of hfs) _ (format_of hfs) _
     (λ t. let a = t.fewer in let b = t.lengths.few in let e = length-replicate {A = ℕ} 8192 0 in omega arith)

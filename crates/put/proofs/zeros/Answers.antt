@@ -1,29 +1,9 @@
 -- `zeros` meets its contract. Assumes nothing.
-use native.Mathlib.Nat.{sub-zero, add-zero}
-use mathlib.Core.Path.{◌≡◌, refl, sym, ap, ◌∙◌}
-use Prim.Native.Nat.{ℕ, ◌+◌, ◌-◌}
 use native.Mathlib.Omega.{arith}
-use lib.ListN.{length-set, length-replicate, replicate}
-use Rattle.put.specs.Put.{put}
-use Rattle.put.proofs.Laws.{put-none, zeros-on}
+use lib.ListN.{length-replicate}
 use borrow.Author.Rules.{rules}
+use Rattle.put.proofs.Laws.{part}
 use Rattle.put.proofs.zeros.Goals as goal
 
-pub loop-i-init : goal.loop-i-init
-loop-i-init c = (search rules, rw (add-zero, sub-zero), refl)
-
-pub bounds-target-at : goal.bounds-target-at
-bounds-target-at c = omega (arith, c.loop-i.invariant.2)
-
-pub loop-i-preserved : goal.loop-i-preserved
-loop-i-preserved c = let l = c.loop-i in (search rules, sym (zeros-on l.target _ _ l.i (omega arith)) ∙ l.invariant.1, simp length-set l.invariant.2)
-
-pub shape_of-target : goal.shape_of-target
-shape_of-target c = c.loop-i.invariant.2
-
 pub returns : goal.returns
-returns c =
-    let l = c.loop-i in
-    let a = c.args in
-    let e : a.n - l.i ≡ 0 = omega arith in
-    record { bytes = sym (put-none l.target (a.at + l.i)) ∙ ap (λ (k : ℕ). put l.target (a.at + l.i) (replicate k 0)) (sym e) ∙ l.invariant.1; next = refl; long = length-replicate a.n 0 }
+returns c = part _ c.args.target.now _ c.args.at _ c.args.n (omega arith) (search rules) (length-replicate c.args.n 0) c.requires

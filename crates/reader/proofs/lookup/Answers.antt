@@ -2,22 +2,29 @@
 use mathlib.Core.Path.{◌≡◌, refl, sym, ap, ◌∙◌}
 use mathlib.Core.Bool.{true}
 use mathlib.Core.List.Memᴰ
+use native.Mathlib.Omega.{arith}
 use Rattle.btree.specs.declared.Lookup.{Lookup}
 use Rattle.btree.specs.declared.Verdict.{Verdict}
+use Rattle.btree.specs.declared.fault.Fault.{Fault}
+use Rattle.btree.specs.Faults.{number_of}
 use Rattle.btree.specs.Search.{refused}
+use Rattle.btree.proofs.Faults.{some_number}
 use Rattle.btree.proofs.Work.{left-untouched, leaves}
 use Rattle.frame.specs.Form.{layout_of}
 use Rattle.formats.specs.Format.{format_of}
 use Rattle.search.proofs.Searched.{searchable}
 use Rattle.reader.proofs.Demands.{by-refused, by-answers, descends}
 use Rattle.reader.proofs.lookup.Goals as goal
-use Rattle.reader.proofs.lookup.Goals.{After-check-t}
+use Rattle.reader.proofs.lookup.Goals.{After-check}
 
-lawful : (c : After-check-t) → c.args.lawful ≡ true
+lawful : (c : After-check) → c.args.lawful ≡ true
 lawful c = c.if-not-lawful.false
 
-abbrev refuse : Verdict → Lookup
-refuse v = refused v.number v.place
+abbrev refuse : Fault → Lookup
+refuse f = refused (number_of f.refusal) f.place
+
+abbrev refuse-as : Verdict → Lookup
+refuse-as v = refused v.number v.place
 
 pub returns-then-not-lawful : goal.returns-then-not-lawful
 returns-then-not-lawful c =
@@ -28,20 +35,20 @@ returns-then-not-lawful c =
       leaves = rw e (leaves l _ f 11 _ _ (sym (left-untouched l _ f 11 _ (Memᴰ.tail (Memᴰ.head refl)))));
     }
 
-pub returns-then-t-ne0 : goal.returns-then-t-ne0
-returns-then-t-ne0 c =
-    let e = c.check-t.ensures.equal in record {
-      equal = rw (lawful (goal.at.returns-then-t-ne0 c).After-check-t) (c.refusal-then-t-ne0.ensures ∙ ap refuse e ∙ sym (by-refused _ _ _ _ (λ z. c.if-t-ne0.true (ap (λ (x : Verdict). x.number) e ∙ z))));
-      leaves = rw c.refusal-then-t-ne0.ensures c.check-t.ensures.leaves;
+pub returns-in-Err : goal.returns-in-Err
+returns-in-Err c =
+    let e = c.in-Err.ensures.equal in
+    let n = ap (λ (v : Verdict). v.number) e in
+    let s = some_number c.in-Err.fault.refusal in record {
+      equal = rw (lawful (goal.at.returns-in-Err c).After-check) (c.refusal-in-Err.ensures ∙ ap refuse-as e ∙ sym (by-refused _ _ _ _ (λ z. omega (arith, n ∙ z, s))));
+      leaves = rw c.refusal-in-Err.ensures c.in-Err.ensures.leaves;
     }
 
 pub descend-requires : goal.descend-requires
-descend-requires c =
-    searchable _ c.requires _ (c.check-t.ensures.says.sound.0 c.if-t-ne0.false).0
+descend-requires c = searchable _ c.requires _ (c.in-Ok.ensures.says.sound.0 refl).0
 
-pub returns : goal.returns
-returns c =
-    let z = c.if-t-ne0.false in record {
-      equal = rw (lawful (goal.at.returns c).After-check-t) (c.descend.ensures ∙ sym (by-answers _ _ _ _ (sym (ap (λ (x : Verdict). x.number) c.check-t.ensures.equal) ∙ z)));
-      leaves = descends _ _ _ _ _ _ c.descend.ensures (rw z at c.check-t.ensures.leaves);
-    }
+pub returns-in-Ok : goal.returns-in-Ok
+returns-in-Ok c = record {
+  equal = rw (lawful (goal.at.returns-in-Ok c).After-check) (c.descend.ensures ∙ sym (by-answers _ _ _ _ (sym (ap (λ (v : Verdict). v.number) c.in-Ok.ensures.equal))));
+  leaves = descends _ _ _ _ _ _ c.descend.ensures c.in-Ok.ensures.leaves;
+}

@@ -1,5 +1,6 @@
 -- `lookup_part` meets its contract. Assumes nothing.
 use lib.ListN.{length}
+use mathlib.Core.Logic.{⊎_elim}
 use mathlib.Core.Path.{◌≡◌, sym, ap, ◌∙◌}
 use Rattle.btree.specs.declared.Lookup.{Lookup}
 use Rattle.btree.specs.declared.Answer.{Answer}
@@ -23,7 +24,7 @@ leaves c = rw c.lookup-found.ensures.equal at c.lookup-found.ensures.leaves
 
 pub data_of-requires : goal.data_of-requires
 data_of-requires c =
-    (c.requires, found_inside c.args.form c.requires c.args.image.now _ _ _ c.args.lawful (answers (goal.at.data_of-requires c).After-lookup-found _ c.in-Found.is))
+    found_inside c.args.form c.requires c.args.image.now _ _ _ c.args.lawful (answers (goal.at.data_of-requires c).After-lookup-found _ c.in-Found.is)
 
 pub returns-in-Found : goal.returns-in-Found
 returns-in-Found c = record {
@@ -33,12 +34,8 @@ returns-in-Found c = record {
 
 pub returns-in-Absent : goal.returns-in-Absent
 returns-in-Absent c = record {
-  part = rw (answers (goal.at.returns-in-Absent c).After-lookup-found _ c.in-Absent.is) c.no_part.ensures;
+  part =
+      ⊎_elim (λ (x, e). rw (answers (goal.at.returns-in-Absent c).After-lookup-found _ e) c.no_part.ensures)
+      (λ (n, p, e). rw (answers (goal.at.returns-in-Absent c).After-lookup-found _ e) c.no_part.ensures) c.in-Absent.is;
   leaves = leaves (goal.at.returns-in-Absent c).After-lookup-found;
-}
-
-pub returns-in-Refused : goal.returns-in-Refused
-returns-in-Refused c = record {
-  part = rw (answers (goal.at.returns-in-Refused c).After-lookup-found _ c.in-Refused.is) c.no_part-in-Refused.ensures;
-  leaves = leaves (goal.at.returns-in-Refused c).After-lookup-found;
 }

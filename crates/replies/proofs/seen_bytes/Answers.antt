@@ -1,8 +1,7 @@
 -- `seen_bytes` meets its contract. Assumes nothing.
+use Rattle.std.proofs.Common.{arith}
+use Rattle.replies.proofs.Data.{zeros-padded}
 use Rattle.replies.proofs.seen_bytes.Goals as goal
 
-pub record_bytes-requires : goal.record_bytes-requires
-record_bytes-requires c = c.requires _ c.in-Seen.is
-
-pub returns-in-Seen : goal.returns-in-Seen
-returns-in-Seen c = rw c.in-Seen.is c.record_bytes.ensures
+pub returns-in-NotSeen : goal.returns-in-NotSeen
+returns-in-NotSeen g c = grind (arith, zeros-padded)

@@ -1,5 +1,5 @@
 -- `first_seen` meets its contract: the nodes that are left give what all give. Assumes nothing.
-use Prim.Native.Nat.{◌-◌, ◌/◌, ◌≤◌}
+use Prim.Native.Nat.{◌-◌, ◌/◌}
 use mathlib.Core.Path.{◌≡◌}
 use lib.ListN.{length}
 use Rattle.formats.specs.Asked.{asked_rank}
@@ -7,7 +7,4 @@ use Rattle.scan.specs.Seen.{seen_from}
 use Rattle.scan.proofs.first_seen.Given as goal
 
 abbrev pub invariant-loop-node : goal.invariant-loop-node
-invariant-loop-node l = (l.total ≤ 65536) × (1 ≤ l.node) × (seen_from l.form l.image (asked_rank l.form l.key l.name) 1 (length l.image / l.form.size - 1) ≡ seen_from l.form l.image (asked_rank l.form l.key l.name) l.node (l.total - l.node))
-
-abbrev pub decreases-loop-node : goal.decreases-loop-node
-decreases-loop-node l = l.total - l.node
+invariant-loop-node l = seen_from l.form l.image (asked_rank l.form l.key l.name) 1 (length l.image / l.form.size - 1) ≡ seen_from l.form l.image (asked_rank l.form l.key l.name) l.node (l.total - l.node)

@@ -1,15 +1,15 @@
 -- `write_tree` meets its contract. Assumes nothing.
-use mathlib.Core.Path.{◌≡◌, sym, ap, ◌∙◌}
+use mathlib.Core.Path.{◌≡◌, refl, sym, ap, ◌∙◌}
 use mathlib.Core.Bool.{true}
 use Prim.Native.Nat.{◌≤◌}
 use native.Mathlib.Omega.{arith}
 use borrow.Author.Rules.{rules}
 use Rattle.btree.specs.Decide.{says}
+use Rattle.btree.specs.Faults.{fault_verdict}
 use Rattle.btree.specs.Image.{Lengths}
 use Rattle.btree.specs.Tests.{dec_lengths}
 use Rattle.btree.proofs.Decisions.{said}
 use Rattle.frame.specs.Form.{hfs, layout_of}
-use Rattle.frame.proofs.Forms.{hfs-listed, fair}
 use Rattle.shape.specs.Shape.{records_in, start, levels}
 use Rattle.laid.specs.Laid.{wanted, root_for}
 use Rattle.leaf_rows.specs.Row.{dec_row_law}
@@ -37,14 +37,11 @@ used-is : (c : After-planned-plan) → let s = c.args in c.planned-plan.result.u
 unfolding wanted
 used-is c = c.planned-plan.ensures.is_used ∙ ap (λ m. start m (records_in c.args.row.now) (levels (records_in c.args.row.now))) c.maps_for-maps.ensures
 
-pub length_right-requires : goal.length_right-requires
-length_right-requires c = rw c.of_hfs.ensures (fair hfs hfs-listed)
-
 pub returns-then-not-length_right : goal.returns-then-not-length_right
 returns-then-not-length_right c =
     let s = c.args in
     let a = sym (rw c.of_hfs.ensures at c.length_right.ensures) ∙ c.if-not-length_right.true in
-    let w = refusal s.row.now s.target.now 1 _ (omega arith) (refused-1 _ _ a) c.at_node.ensures in record {
+    let w = refusal s.row.now s.target.now 1 _ (omega arith) (refused-1 _ _ a) (ap fault_verdict c.at_node.ensures) in record {
       equal = w.equal;
       written = w.bytes;
       says = w.demand;
@@ -54,7 +51,7 @@ pub returns-then-not-row_right : goal.returns-then-not-row_right
 returns-then-not-row_right c =
     let s = c.args in
     let b = sym c.row_right.ensures ∙ c.if-not-row_right.true in
-    let w = refusal s.row.now s.target.now 19 _ (omega arith) (refused-19 _ _ (judged (goal.at.returns-then-not-row_right c).Else-not-length_right) b) c.at_node-then-not-row_right.ensures in record {
+    let w = refusal s.row.now s.target.now 19 _ (omega arith) (refused-19 _ _ (judged (goal.at.returns-then-not-row_right c).Else-not-length_right) b) (ap fault_verdict c.at_node-then-not-row_right.ensures) in record {
       equal = w.equal;
       written = w.bytes;
       says = w.demand;
@@ -70,7 +67,7 @@ pub returns-then-plan-nodes : goal.returns-then-plan-nodes
 returns-then-plan-nodes c =
     let s = c.args in
     let w = refusal s.row.now s.target.now 20 _ (omega arith)
-    (refused-20 _ _ (judged (goal.at.returns-then-plan-nodes c).Else-not-length_right) (lawful (goal.at.returns-then-plan-nodes c).Else-not-row_right) (omega (arith, used-is (goal.at.returns-then-plan-nodes c).After-planned-plan, c.if-plan-nodes.true))) c.at_node-then-plan-nodes.ensures in record {
+    (refused-20 _ _ (judged (goal.at.returns-then-plan-nodes c).Else-not-length_right) (lawful (goal.at.returns-then-plan-nodes c).Else-not-row_right) (omega (arith, used-is (goal.at.returns-then-plan-nodes c).After-planned-plan, c.if-plan-nodes.true))) (ap fault_verdict c.at_node-then-plan-nodes.ensures) in record {
       equal = w.equal;
       written = w.bytes;
       says = w.demand;
@@ -109,7 +106,7 @@ pub returns : goal.returns
 returns c =
     let s = c.args in
     let w = success s.row.now s.target.now _ _
-    (accepted _ _ (judged (goal.at.returns c).Else-not-length_right) (lawful (goal.at.returns c).Else-not-row_right) (omega (arith, used-is (goal.at.returns c).After-planned-plan, c.if-plan-nodes.false))) c.at_node-2.ensures c.lay.ensures in record {
+    (accepted _ _ (judged (goal.at.returns c).Else-not-length_right) (lawful (goal.at.returns c).Else-not-row_right) (omega (arith, used-is (goal.at.returns c).After-planned-plan, c.if-plan-nodes.false))) refl c.lay.ensures in record {
       equal = w.equal;
       written = w.bytes;
       says = w.demand;

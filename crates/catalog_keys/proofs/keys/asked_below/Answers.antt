@@ -1,6 +1,7 @@
 -- `keys::asked_below` meets its contract. Assumes nothing.
-use Rattle.catalog_keys.proofs.Signs.{sign_below}
+use mathlib.Core.Path.{◌∙◌}
+use Rattle.catalog_keys.proofs.Answered.{below_by}
 use Rattle.catalog_keys.proofs.keys.asked_below.Goals as goal
 
 pub returns : goal.returns
-returns c = sign_below _ _ _ c.compare_asked.ensures.order
+returns c = c.is_lt.ensures ∙ below_by _ _ _ c.compare_asked.ensures.order

@@ -1,25 +1,27 @@
--- `names::compare_names` meets its contract. The loop's invariant: the names compare as what is left of them. Assumes nothing.
-use mathlib.Core.Path.{refl, sym, ◌∙◌}
+-- `names::compare_names` meets its contract. Assumes nothing.
+use mathlib.Core.Path.{sym, ◌∙◌}
+use mathlib.Core.Logic.{⊎_elim, inl, inr}
 use native.Mathlib.Omega.{arith}
-use native.Mathlib.Numerals.{add-one}
-use Rattle.catalog_keys.proofs.Prefixes.{names-differ, names-on, names-end}
-use Rattle.catalog_keys.proofs.Signs.{ranked-kept}
+use Rattle.catalog_keys.proofs.Prefixes.{names-apart, names-on, names-end}
+use Rattle.catalog_keys.proofs.Answered.{number-cmp}
 use Rattle.catalog_keys.proofs.names.compare_names.Goals as goal
 
-pub loop-i-init : goal.loop-i-init
-loop-i-init c = (omega arith, refl)
+pub returns-then-is_ne : goal.returns-then-is_ne
+returns-then-is_ne c =
+    let s = c.in-Some.ensures.steps in
+    names-apart _ _ _ _ _ _ s.0 s.1 _ _ _ c.weight_in.ensures.0 c.weight_in-in-loop-x.ensures.0 c.cmp-order.ensures c.if-is_ne.ensures
+    ∙ sym c.loop-x.invariant.0
 
-pub returns-then-x-y : goal.returns-then-x-y
-returns-then-x-y c = let l = c.loop-i in
-    let d = c.weight_in-x.ensures.0 in
-    let e = c.weight_in-y.ensures.0 in
-    ranked-kept _ _ _ c.order_of.ensures ∙ rw (d, e) (sym (names-differ _ _ l.i l.invariant.1 (omega arith) (λ w. c.if-x-y.true (omega arith))))
-
-pub loop-i-preserved : goal.loop-i-preserved
-loop-i-preserved c = let l = c.loop-i in
-    let d = c.weight_in-x.ensures.0 in
-    let e = c.weight_in-y.ensures.0 in
-    (omega arith, rw (add-one l.i) (names-on _ _ l.i l.invariant.1 (omega arith) (omega arith)))
+pub loop-x-preserved : goal.loop-x-preserved
+loop-x-preserved c =
+    let s = c.in-Some.ensures.steps in
+    let l = c.loop-x.invariant in (
+      l.0 ∙ names-on _ _ _ _ _ _ s.0 s.1 _ _ _ c.weight_in.ensures.0 c.weight_in-in-loop-x.ensures.0 c.cmp-order.ensures c.if-is_ne.ensures,
+      grind (arith, s.0, s.1),
+    )
 
 pub returns : goal.returns
-returns c = let l = c.loop-i in ranked-kept _ _ _ c.order_of-2.ensures ∙ sym (names-end _ _ l.i l.invariant.1 (omega arith))
+returns c =
+    let l = c.loop-x.invariant in
+    number-cmp _ _ _ c.cmp.ensures
+    ∙ sym (names-end _ _ _ _ l.0 l.1 (⊎_elim (λ u. inl u.1.0) (λ u. inr u.1.0) c.in-None.ensures.steps))

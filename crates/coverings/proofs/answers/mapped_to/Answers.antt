@@ -8,7 +8,7 @@ use Rattle.coverings.proofs.answers.mapped_to.Goals as goal
 
 pub returns-then-volume-gt65535 : goal.returns-then-volume-gt65535
 unfolding mapped_to
-returns-then-volume-gt65535 c = sym (cond_no (dec_le _ _) _ _ (λ h. omega (arith, c.if-volume-gt65535.true)))
+returns-then-volume-gt65535 c = rw c.number.ensures (sym (cond_no (dec_le _ _) _ _ (λ h. omega (arith, c.if-volume-gt65535.true))))
 
 pub returns : goal.returns
 unfolding mapped_to

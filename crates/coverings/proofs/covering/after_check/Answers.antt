@@ -1,21 +1,32 @@
 -- `covering::after_check` meets its contract. Assumes nothing.
-use mathlib.Core.Path.{sym, ap, ◌∙◌}
+use Prim.Native.Nat.{ℕ}
+use native.Mathlib.Omega.{arith}
+use mathlib.Core.Path.{◌≡◌, sym, ap, ◌∙◌}
+use lib.ListN.{length}
 use Rattle.btree.specs.declared.Verdict.{Verdict}
+use Rattle.btree.specs.Faults.{number_of}
+use Rattle.btree.proofs.Faults.{some_number}
+use Rattle.extents.specs.Reader.{checked}
 use Rattle.coverings.specs.declared.answers.Source.TheVariants.{Extents}
 use Rattle.coverings.specs.declared.answers.Mapping.TheVariants.{Refused}
 use Rattle.coverings.proofs.Order.{after-refused, after-sound}
 use Rattle.coverings.proofs.covering.after_check.Goals as goal
 
-pub returns-then-t-ne0 : goal.returns-then-t-ne0
-returns-then-t-ne0 c =
-    let e = c.check-t.ensures.equal in record {
-      equal = ap (λ (t : Verdict). Refused Extents t.number t.place) e ∙ sym (after-refused _ _ _ (λ z. c.if-t-ne0.true (ap (λ (t : Verdict). t.number) e ∙ z)));
-      leaves = rw e at c.check-t.ensures.leaves;
+pub returns-in-Err : goal.returns-in-Err
+returns-in-Err c =
+    let e = c.in-Err.ensures.equal in
+    let s = some_number c.in-Err.fault.refusal in
+    let n : number_of c.in-Err.fault.refusal ≡ (checked c.args.extents.now (length c.args.work.now)).number = ap (λ (t : Verdict). t.number) e in record {
+      equal =
+          ap (λ (k : ℕ). Refused Extents k c.in-Err.fault.place) c.number.ensures
+          ∙ ap (λ (t : Verdict). Refused Extents t.number t.place) e
+          ∙ sym (after-refused _ _ _ (λ z. omega (arith, n ∙ z, s)));
+      leaves = rw c.check.ensures.equal at c.check.ensures.leaves;
     }
 
-pub returns : goal.returns
-returns c =
-    let e = c.check-t.ensures.equal in record {
-      equal = sym (after-sound _ _ _ (ap (λ (t : Verdict). t.number) (sym e) ∙ c.if-t-ne0.false));
-      leaves = rw e at c.check-t.ensures.leaves;
+pub returns-in-Ok : goal.returns-in-Ok
+returns-in-Ok c =
+    let e = c.in-Ok.ensures.equal in record {
+      equal = sym (after-sound _ _ _ (ap (λ (t : Verdict). t.number) (sym e)));
+      leaves = rw c.check.ensures.equal at c.check.ensures.leaves;
     }

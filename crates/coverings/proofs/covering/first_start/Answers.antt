@@ -9,6 +9,6 @@ pub returns-then-fork-eq0 : goal.returns-then-fork-eq0
 unfolding first_start
 returns-then-fork-eq0 c = sym (cond_yes (ℕ_discrete _ 0) _ _ c.if-fork-eq0.true)
 
-pub returns : goal.returns
+pub returns-else-fork-eq0 : goal.returns-else-fork-eq0
 unfolding first_start
-returns c = sym (cond_no (ℕ_discrete _ 0) _ _ c.if-fork-eq0.false)
+returns-else-fork-eq0 c = sym (cond_no (ℕ_discrete _ 0) _ _ c.if-fork-eq0.false)

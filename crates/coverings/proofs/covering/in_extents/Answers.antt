@@ -32,7 +32,7 @@ covered c = said (dec_covers _ _ _ _) (sym c.covers.ensures ∙ c.if-not-covers.
 
 pub returns-then-not-covers : goal.returns-then-not-covers
 returns-then-not-covers c = record {
-  equal = sym (cond_no (dec_covers _ _ _ _) _ _ (unsaid (dec_covers _ _ _ _) (sym c.covers.ensures ∙ c.if-not-covers.true))) ∙ answers (goal.at.returns-then-not-covers c).After-floor _ c.in-At.is;
+  equal = c.uncovered.ensures ∙ sym (cond_no (dec_covers _ _ _ _) _ _ (unsaid (dec_covers _ _ _ _) (sym c.covers.ensures ∙ c.if-not-covers.true))) ∙ answers (goal.at.returns-then-not-covers c).After-floor _ c.in-At.is;
   leaves = leaves (goal.at.returns-then-not-covers c).After-floor;
 }
 
@@ -52,7 +52,7 @@ returns-else-not-covers c =
 
 pub returns-in-Nowhere : goal.returns-in-Nowhere
 returns-in-Nowhere c = record {
-  equal = answers (goal.at.returns-in-Nowhere c).After-floor _ c.in-Nowhere.is;
+  equal = c.uncovered-in-Nowhere.ensures ∙ answers (goal.at.returns-in-Nowhere c).After-floor _ c.in-Nowhere.is;
   leaves = leaves (goal.at.returns-in-Nowhere c).After-floor;
 }
 

@@ -1,8 +1,8 @@
 -- `key::sort_key` meets its contract. Assumes nothing.
-use mathlib.Core.Path.{refl}
+use native.Mathlib.Omega.{arith}
 use Rattle.extent_keys.specs.Key.{rank, rank_of}
 use Rattle.extent_keys.proofs.key.sort_key.Goals as goal
 
 pub returns : goal.returns
 unfolding rank rank_of
-returns c = refl
+returns c = omega arith

@@ -1,15 +1,11 @@
 -- `floors::record_of` meets its contract. Assumes nothing.
-use mathlib.Core.Path.{◌≡◌, sym, ap, subst, ◌∙◌}
+use mathlib.Core.Path.{◌≡◌, ap, ◌∙◌}
 use Rattle.btree.specs.Places.{image_offset}
 use Rattle.frame.specs.declared.form.Form.{Form}
-use Rattle.frame.specs.Form.{hfs, layout_of, key_size, Fair}
-use Rattle.frame.proofs.Forms.{hfs-listed, fair}
+use Rattle.frame.specs.Form.{hfs, layout_of, key_size}
 use Rattle.extent_keys.specs.Key.{key_at}
 use Rattle.extents.specs.Floor.{record_of}
 use Rattle.extents.proofs.floors.record_of.Goals as goal
-
-pub place_at-at-requires : goal.place_at-at-requires
-place_at-at-requires c = subst Fair (sym c.of_hfs.ensures) (fair hfs hfs-listed)
 
 pub returns : goal.returns
 unfolding record_of key_at key_size

@@ -2,11 +2,8 @@
 use native.Mathlib.Omega.{arith}
 use Prim.Native.Nat.{◌/◌, ◌%◌}
 use Rattle.fast_records.specs.Keyed.{turn}
-use Rattle.fast_records.proofs.Turns.{lead-small, joined, halves_small}
+use Rattle.fast_records.proofs.Turns.{lead-small, joined}
 use Rattle.fast_records.proofs.keys.turned.Goals as goal
-
-pub overflow_add-result : goal.overflow_add-result
-overflow_add-result c = record { fits = halves_small c.rotated-whole.result c.rotated_half-half.result (omega arith) (omega arith) }
 
 pub returns : goal.returns
 unfolding turn

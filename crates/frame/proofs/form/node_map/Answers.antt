@@ -4,8 +4,9 @@ use native.Mathlib.Omega.{arith}
 use Rattle.frame.proofs.Forms.{node-map-hfs, node-map-plus}
 use Rattle.frame.proofs.form.node_map.Goals as goal
 
-pub returns-then-form-eq0 : goal.returns-then-form-eq0
-returns-then-form-eq0 c = (sym (node-map-hfs _ c.if-form-eq0.true), omega arith)
+pub returns-in-Hfs : goal.returns-in-Hfs
+returns-in-Hfs c = let m = node-map-hfs c.args.form (sym c.in-Hfs.ensures) in (omega arith, omega arith)
 
-pub returns-else-form-eq0 : goal.returns-else-form-eq0
-returns-else-form-eq0 c = (sym (node-map-plus _ c.if-form-eq0.false), omega arith)
+pub returns-in-HfsPlus : goal.returns-in-HfsPlus
+returns-in-HfsPlus c =
+    let m = node-map-plus c.args.form c.in-HfsPlus.ensures in (omega arith, omega arith)

@@ -4,9 +4,6 @@ use native.Mathlib.Omega.{arith}
 use Rattle.image.proofs.Laws.{be16-beyond, halves}
 use Rattle.image.proofs.bytes.be32.Goals as goal
 
-pub returns-then-at-image : goal.returns-then-at-image
-returns-then-at-image c = c.be32_in.ensures
-
 pub returns-then-at-image-2 : goal.returns-then-at-image-2
 returns-then-at-image-2 c =
     let bytes = c.args.image.now in

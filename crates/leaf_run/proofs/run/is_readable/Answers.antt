@@ -3,26 +3,10 @@ use native.Mathlib.Omega.{arith}
 use mathlib.Core.Path.{sym, ◌∙◌}
 use Rattle.frame.specs.Form.{hfs, Fair}
 use Rattle.frame.specs.Kinds.{kind_of}
-use Rattle.fast_records.proofs.Surely.{never}
 use Rattle.leaf_run.proofs.run.is_readable.Goals as goal
 
 wide : Fair hfs
 wide = record { least = omega arith; most = omega arith }
-
-pub returns-then-c-gt35 : goal.returns-then-c-gt35
-returns-then-c-gt35 c = never
-
-pub returns-then-hfs_start-image : goal.returns-then-hfs_start-image
-returns-then-hfs_start-image c = never
-
-pub returns-then-at-image : goal.returns-then-at-image
-returns-then-at-image c = never
-
-pub returns-then-byte_in-ne0 : goal.returns-then-byte_in-ne0
-returns-then-byte_in-ne0 c = never
-
-pub returns-then-high-image : goal.returns-then-high-image
-returns-then-high-image c = never
 
 pub returns : goal.returns
 unfolding kind_of

@@ -4,13 +4,15 @@ use Rattle.btree.specs.Header.{view_of}
 use Rattle.btree.proofs.Telling.{tells-yes, tells-equal}
 use Rattle.order.proofs.Bounds.{no_pointer, pointer-meets}
 use Rattle.order.proofs.keys.first_meets.Goals as goal
+use Rattle.order.proofs.keys.first_meets.Goals.{then-low-eq0-via-then-low-eq0, then-low-eq0-via-else-low-eq0+then-count_of-eq0}
 
 pub returns-then-low-eq0 : goal.returns-then-low-eq0
-returns-then-low-eq0 c = tells-yes (λ u. no_pointer _ _ _ _ c.if-low-eq0.true)
-
-pub returns-then-count_of-eq0 : goal.returns-then-count_of-eq0
 unfolding view_of
-returns-then-count_of-eq0 c = tells-yes (λ u. let e = c.count_of.ensures.0 in let z = c.if-count_of-eq0.true in absurd (omega arith))
+returns-then-low-eq0 c =
+    tells-yes (elim c.then-low-eq0.branch [
+      | then-low-eq0-via-then-low-eq0 w ↦ λ u. no_pointer _ _ _ _ w.if-low-eq0.true
+      | then-low-eq0-via-else-low-eq0+then-count_of-eq0 w ↦ λ u. let e = w.count_of.ensures.0 in let z = w.if-count_of-eq0.true in absurd (omega arith)
+    ])
 
 pub returns : goal.returns
 unfolding view_of

@@ -1,6 +1,6 @@
 -- `descent::reach` meets its contract. Assumes nothing.
 use native.Mathlib.Omega.{arith}
-use mathlib.Core.Path.{sym, subst, ◌∙◌}
+use mathlib.Core.Path.{◌≡◌, sym, subst, ◌∙◌}
 use Rattle.btree.specs.Header.{view_of}
 use Rattle.formats.specs.Asked.{asked_rank}
 use Rattle.formats.specs.Format.{view}
@@ -47,4 +47,5 @@ returns c =
     let a = c.args in
     let v = view a.form a.image.now in
     let k = asked_rank a.form a.key a.name.now in
-    subst (Reaches v k) (sym c.ended-2.ensures) (ends-path v k c.requires.tree _ _ _ _ _ c.loop-len.invariant _ c.halve-halved-2.ensures.0 c.loop-len-test.false)
+    let e : c.be16-depth.result ≡ c.loop-len.len = omega (arith, c.loop-len-test.false) in
+    subst (Reaches v k) (sym c.ended-2.ensures) (rw e (ends-path v k c.requires.tree _ _ _ _ _ c.loop-len.invariant _ c.halve-halved-2.ensures.0 c.loop-len-test.false))

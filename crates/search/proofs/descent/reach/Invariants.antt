@@ -1,5 +1,4 @@
 -- `descent::reach` meets its contract. Assumes nothing.
-use Prim.Native.Nat.{◌-◌}
 use Rattle.formats.specs.Asked.{asked_rank}
 use Rattle.formats.specs.Format.{view}
 use Rattle.search.proofs.Stored.{Stored}
@@ -7,6 +6,3 @@ use Rattle.search.proofs.descent.reach.Given as goal
 
 abbrev pub invariant-loop-len : goal.invariant-loop-len
 invariant-loop-len l = Stored (view l.form l.image) (asked_rank l.form l.key l.name) l.depth l.nodes l.node l.len l.compared
-
-abbrev pub decreases-loop-len : goal.decreases-loop-len
-decreases-loop-len l = l.depth - l.len

@@ -6,8 +6,7 @@ use Rattle.btree.specs.Places.{image_offset}
 use Rattle.btree.specs.Search.{answer_of, descent_of}
 use Rattle.btree.proofs.Decisions.{said, unsaid}
 use Rattle.frame.specs.declared.form.Form.{Form}
-use Rattle.frame.specs.Form.{hfs, layout_of, Fair}
-use Rattle.frame.proofs.Forms.{hfs-listed, fair}
+use Rattle.frame.specs.Form.{hfs, layout_of}
 use Rattle.extent_keys.specs.Key.{rank, unpacked, dec_key}
 use Rattle.formats.proofs.Ranks.{asked-extents}
 use Rattle.formats.specs.Format.{data_at, view}
@@ -43,9 +42,6 @@ returns-then-not-is_key c = sym (result-no-key _ _ (unsaid (dec_key _) (sym c.is
 pub descend-found-requires : goal.descend-found-requires
 descend-found-requires c =
     subst (λ (form : Form). Searchable form c.args.image.now) (sym c.of_hfs-form.ensures) c.requires.searchable
-
-pub data_at-requires : goal.data_at-requires
-data_at-requires c = let f = c.of_hfs-form in subst Fair (sym f.ensures) (fair hfs hfs-listed)
 
 pub overflow_cast-result : goal.overflow_cast-result
 overflow_cast-result c =

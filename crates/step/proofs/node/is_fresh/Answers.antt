@@ -5,8 +5,8 @@ use Rattle.step.proofs.node.is_fresh.Goals as goal
 
 pub returns-then-node-total : goal.returns-then-node-total
 unfolding fresh_in
-returns-then-node-total c = rw (le-ltb _ _ c.if-node-total.true)
+returns-then-node-total c = rw (lt-ltb _ _ c.if-node-total.true, c.bit_at.ensures.0)
 
-pub returns : goal.returns
+pub returns-else-node-total : goal.returns-else-node-total
 unfolding fresh_in
-returns c = rw (lt-ltb _ _ c.if-node-total.false, c.bit_at.ensures.0)
+returns-else-node-total c = rw (le-ltb _ _ c.if-node-total.false)

@@ -4,4 +4,4 @@ use Rattle.step.proofs.state.kept_at.Goals as goal
 
 pub returns : goal.returns
 unfolding kept
-returns c = rw (c.first_with-first.ensures, c.counted-more.ensures.0)
+returns c = rw (c.first_with.ensures, c.counted.ensures.0)

@@ -5,9 +5,10 @@ use Rattle.shape.specs.Shape.{nodes_at, start, levels_above, levels}
 use Rattle.tree_writer.proofs.plan.planned.Given as goal
 
 abbrev pub invariant-loop-depth : goal.invariant-loop-depth
-invariant-loop-depth l =
-    (1 ≤ l.depth) × (l.depth ≤ 8) × (l.n ≡ nodes_at l.records (l.depth - 1)) × (l.root ≡ start l.maps l.records (l.depth - 1)) × (l.depth + levels_above (8 - l.depth) l.n ≡ levels l.records)
-    × (l.n < 50000000000000000) × (l.root ≤ 21 + 50000000000000000 * l.depth)
-
-abbrev pub decreases-loop-depth : goal.decreases-loop-depth
-decreases-loop-depth l = 8 - l.depth
+invariant-loop-depth l = record {
+  width : l.n ≡ nodes_at l.records (l.depth - 1);
+  begin : l.root ≡ start l.maps l.records (l.depth - 1);
+  above : l.depth + levels_above (8 - l.depth) l.n ≡ levels l.records;
+  narrow : l.n < 50000000000000000;
+  small : l.root ≤ 21 + 50000000000000000 * l.depth;
+}

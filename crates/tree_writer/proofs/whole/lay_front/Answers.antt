@@ -7,7 +7,7 @@ pub header_node-a-requires : goal.header_node-a-requires
 header_node-a-requires c =
     let p = c.requires in (
       omega (arith, p.room),
-      record { is_root = p.is_root; is_first = c.first_leaf-first.ensures _; is_last = c.last_leaf-last.ensures _ p.leaves; is_used = p.is_used },
+      record { is_root = p.is_root; is_first = c.first_leaf.ensures _; is_last = c.last_leaf.ensures _ p.leaves; is_used = p.is_used },
       p.fits,
     )
 

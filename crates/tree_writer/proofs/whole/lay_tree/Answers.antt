@@ -7,7 +7,7 @@ pub index_levels-requires : goal.index_levels-requires
 index_levels-requires c =
     let p = c.requires in
     let a = c.leaf_level-a in
-    (omega (arith, c.levels_above.ensures, p.low), rw (c.levels_above.ensures, a.ensures.next, a.auto.target) p.levels)
+    (omega (arith, c.saturating_sub.ensures, p.low), rw (c.saturating_sub.ensures, a.ensures.next, a.auto.target) p.levels)
 
 pub returns : goal.returns
-returns c = then c.leaf_level-a.ensures (rw c.levels_above.ensures at c.index_levels.ensures)
+returns c = then c.leaf_level-a.ensures (rw c.saturating_sub.ensures at c.index_levels.ensures)

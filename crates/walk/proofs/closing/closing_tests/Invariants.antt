@@ -3,12 +3,9 @@ use Rattle.walk.proofs.Ends.{rest}
 use Rattle.btree.specs.Walk.{closing, ends}
 use Rattle.step.specs.State.{last_at}
 use Rattle.formats.specs.Format.{view}
-use Prim.Native.Nat.{◌-◌, ◌≤◌}
+use Prim.Native.Nat.{◌-◌}
 use mathlib.Core.Path.{◌≡◌}
 use Rattle.walk.proofs.closing.closing_tests.Given as goal
 
 abbrev pub invariant-loop-d : goal.invariant-loop-d
-invariant-loop-d l = (l.d ≤ l.depth) × (closing (view l.form l.image) (last_at l.w) l.w.first l.w.records ≡ ends (view l.form l.image) (last_at l.w) l.d (l.depth - l.d) (rest (view l.form l.image) l.w))
-
-abbrev pub decreases-loop-d : goal.decreases-loop-d
-decreases-loop-d l = l.depth - l.d
+invariant-loop-d l = closing (view l.form l.image) (last_at l.w) l.w.first l.w.records ≡ ends (view l.form l.image) (last_at l.w) l.d (l.depth - l.d) (rest (view l.form l.image) l.w)

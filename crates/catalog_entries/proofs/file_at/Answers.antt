@@ -1,5 +1,0 @@
--- `file_at` meets its contract. Assumes nothing.
-use Rattle.catalog_entries.proofs.file_at.Goals as goal
-
-pub returns : goal.returns
-returns c = cc

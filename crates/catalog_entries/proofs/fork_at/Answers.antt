@@ -1,5 +1,0 @@
--- `fork_at` meets its contract. Assumes nothing.
-use Rattle.catalog_entries.proofs.fork_at.Goals as goal
-
-pub returns : goal.returns
-returns c = cc

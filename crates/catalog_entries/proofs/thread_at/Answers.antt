@@ -1,5 +1,0 @@
--- `thread_at` meets its contract. Assumes nothing.
-use Rattle.catalog_entries.proofs.thread_at.Goals as goal
-
-pub returns : goal.returns
-returns c = cc
