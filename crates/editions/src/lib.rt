@@ -10,7 +10,7 @@ ghost use Rattle.reader.specs.Reader.{Leaves, found_part, seen_part};
 ghost use Rattle.reader.specs.Demands.{PartOf};
 ghost use Rattle.editions.specs.Editions.{checked_as, looked_up_as, salvaged_as, CheckSays, LookupSays, SalvageSays};
 
-use btree::fault::{Fault, Refusal};
+use btree::fault::{Fault, Refusal, verdict};
 use btree::{Lookup, Place, Salvage};
 use extent_keys::key::{is_lawful, sort_key};
 use frame::form::Form;
@@ -48,7 +48,7 @@ pub fn lookup(
     let key = sort_key(file, fork, start);
     match Form::listed(edition, size) {
         Some(form) => reader::lookup(form, image, lawful, key, no_part(image), work),
-        None => refusal(Fault::at_node(Refusal::Form, 0)),
+        None => refusal(verdict(Err(Fault::at_node(Refusal::Form, 0)))),
     }
 }
 

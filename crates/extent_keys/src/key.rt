@@ -4,7 +4,7 @@ ghost use Rattle.btree.specs.Decide.{says};
 ghost use Rattle.btree.specs.Ranked.{ranked};
 ghost use Rattle.extent_keys.specs.Key.{number, dec_lawful, key_at, asked, compared, rank, rank_of, packed, IsShort, unpacked, dec_key};
 
-use frame::form::{Edition, Form};
+use frame::form::{Edition, FormNumbers};
 use image::bytes::bytes_from;
 use image::within::{be16_in, be32_in};
 use std::cmp::Ordering;
@@ -79,8 +79,8 @@ pub fn is_same(a: SortKey, b: SortKey) -> bool
     a == b
 }
 
-// The key that stands at a byte of the image, which has it whole: no key is longer than 12 bytes.
-pub fn key_in(form: Form, image: &[u8], at: usize) -> SortKey
+// The key that stands at a byte of the image, which has it whole: no key is longer than 12 bytes. Of a form the edition alone counts, so any numbers do.
+pub fn key_in(form: FormNumbers, image: &[u8], at: usize) -> SortKey
     requires { at + 12 ≤ length image.now }
     ensures { rank_of result ≡ rank (key_at form image.now at) }
 {
@@ -99,7 +99,7 @@ pub fn key_in(form: Form, image: &[u8], at: usize) -> SortKey
 }
 
 // The key that stands at a byte of the image: one test for all its bytes.
-pub fn key_at(form: Form, image: &[u8], at: usize) -> SortKey
+pub fn key_at(form: FormNumbers, image: &[u8], at: usize) -> SortKey
     requires { at < 1000000000000000 }
     ensures { rank_of result ≡ rank (key_at form image.now at) }
 {

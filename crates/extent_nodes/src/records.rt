@@ -9,7 +9,7 @@ ghost use Rattle.frame.specs.Kinds.{kind_number};
 ghost use Rattle.extent_nodes.specs.Records.{data_size, record_size, Holds, start_at, KeyLaw, ExtentRecords};
 
 use extent_keys::key::is_lawful;
-use frame::form::{Edition, Form, key_size};
+use frame::form::{Edition, Form, FormNumbers, key_size};
 use frame::kind::Kind;
 use frame::node::start_of;
 use image::within::{be16_in, byte_in};
@@ -24,12 +24,12 @@ pub fn data_size(form: Form) -> u32
     }
 }
 
-// Bytes of a record.
+// Bytes of a record of a node of which the kind may be any byte.
 #[tactic(auto, unfolding(crate::specs::Records::record_size))]
-pub fn record_size(form: Form, kind: Kind) -> u32
-    ensures { (result ≡ record_size form (kind_number kind)) × (result ≤ 102) }
+pub fn record_size(form: Form, kind: u32) -> u32
+    ensures { (result ≡ record_size form kind) × (result ≤ 102) }
 {
-    match kind {
+    match Kind::of_byte(kind) {
         Kind::Index => key_size(form) + 4,
         Kind::Leaf => key_size(form) + data_size(form),
     }
@@ -59,8 +59,8 @@ fn offsets_right(form: Form, image: &[u8], node: u32, c: u32, size: u32) -> bool
     true
 }
 
-// The length and the fork byte of the key at a byte of the image.
-pub fn key_lawful(form: Form, image: &[u8], at: usize) -> bool
+// The length and the fork byte of the key at a byte of the image, in a form of any numbers.
+pub fn key_lawful(form: FormNumbers, image: &[u8], at: usize) -> bool
     requires { (form.tree ≡ 0) × (at + 12 ≤ length image.now) }
     ensures { Tells result (KeyLaw form image.now at) }
 {
@@ -75,10 +75,11 @@ fn keys_lawful(form: Form, image: &[u8], node: u32, kind: Kind, c: u32) -> bool
     requires { (form.tree ≡ 0) × NodeIn form image.now node × Holds form (kind_number kind) c × (c < 65536) }
     ensures { Tells result ((i : ℕ) → i < c → KeyLaw form image.now (start_at form (kind_number kind) node i)) }
 {
-    let step = record_size(form, kind) as usize;
+    let numbers = form.numbers();
+    let step = record_size(form, kind.number()) as usize;
     let mut at = start_of(form, node) + 14;
     for _i in 0..c {
-        if !key_lawful(form, image, at) {
+        if !key_lawful(numbers, image, at) {
             return false;
         }
         at += step;
@@ -91,7 +92,7 @@ pub fn records_right(form: Form, image: &[u8], node: u32, kind: Kind, c: u32) ->
     requires { (form.tree ≡ 0) × NodeIn form image.now node × (c ≡ count_of (layout_of form) image.now node) × (c < 65536) }
     ensures { Tells result (ExtentRecords form image.now (kind_number kind) node) }
 {
-    let size = record_size(form, kind);
+    let size = record_size(form, kind.number());
     14 + records_bytes(c, size as usize) + 2 * (c as usize + 1) <= form.size() as usize
         && offsets_right(form, image, node, c, size)
         && keys_lawful(form, image, node, kind, c)

@@ -12,7 +12,10 @@ pub fn is_below(form: Form, image: &[u8], a: usize, b: usize) -> bool
     ensures { result ≡ ltb (rank_at form image.now a) (rank_at form image.now b) }
 {
     match form.tree() {
-        Tree::Extents => extent_keys::key::is_below(key_at(form, image, a), key_at(form, image, b)),
+        Tree::Extents => {
+            let numbers = form.numbers();
+            extent_keys::key::is_below(key_at(numbers, image, a), key_at(numbers, image, b))
+        }
         Tree::Catalog => catalog_keys::keys::below_at(image, a, b),
     }
 }
@@ -23,7 +26,10 @@ pub fn is_same(form: Form, image: &[u8], a: usize, b: usize) -> bool
     ensures { result ≡ eqb (rank_at form image.now a) (rank_at form image.now b) }
 {
     match form.tree() {
-        Tree::Extents => extent_keys::key::is_same(key_at(form, image, a), key_at(form, image, b)),
+        Tree::Extents => {
+            let numbers = form.numbers();
+            extent_keys::key::is_same(key_at(numbers, image, a), key_at(numbers, image, b))
+        }
         Tree::Catalog => catalog_keys::keys::same_at(image, a, b),
     }
 }
@@ -34,7 +40,7 @@ pub fn asked_below(form: Form, key: SortKey, name: &[u8], image: &[u8], at: usiz
     ensures { result ≡ ltb (asked_rank form key name.now) (rank_at form image.now at) }
 {
     match form.tree() {
-        Tree::Extents => extent_keys::key::is_below(key, key_in(form, image, at)),
+        Tree::Extents => extent_keys::key::is_below(key, key_in(form.numbers(), image, at)),
         Tree::Catalog => catalog_keys::keys::asked_below(key.owner, name, image, at),
     }
 }
@@ -45,7 +51,7 @@ pub fn asked_same(form: Form, key: SortKey, name: &[u8], image: &[u8], at: usize
     ensures { result ≡ eqb (rank_at form image.now at) (asked_rank form key name.now) }
 {
     match form.tree() {
-        Tree::Extents => extent_keys::key::is_same(key_at(form, image, at), key),
+        Tree::Extents => extent_keys::key::is_same(key_at(form.numbers(), image, at), key),
         Tree::Catalog => catalog_keys::keys::asked_same(key.owner, name, image, at),
     }
 }

@@ -11,7 +11,6 @@ use btree::Place;
 use catalog_nodes::records::{offset_word, size_of_type, type_at};
 use extent_nodes::records::{record_size, records_bytes};
 use frame::form::{Form, Tree, key_size};
-use frame::kind::Kind;
 use frame::node::{kind_of, start_of};
 use image::bytes::be32;
 use image::part::part_at;
@@ -20,7 +19,7 @@ use image::part::part_at;
 pub fn record_step(form: Form, image: &[u8], node: u32) -> usize
     ensures { (result ≡ record_size form (kind_of form image.now node)) × (result ≤ 102) }
 {
-    record_size(form, Kind::of_byte(kind_of(form, image, node))) as usize
+    record_size(form, kind_of(form, image, node)) as usize
 }
 
 // Where record i of a node starts in the image.

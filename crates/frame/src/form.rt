@@ -27,6 +27,17 @@ pub struct FormNumbers {
     pub size: u32,
 }
 
+impl FormNumbers {
+    pub fn edition(self) -> Edition
+        ensures { IsEdition result self.edition }
+    {
+        match self.edition {
+            0 => Edition::Hfs,
+            _ => Edition::HfsPlus,
+        }
+    }
+}
+
 // A form to go by: clauses see its numbers, of which the size of a node is never out of the range of those listed.
 #[derive(Clone, Copy)]
 pub struct Form {
@@ -100,10 +111,7 @@ impl Form {
     pub fn edition(self) -> Edition
         ensures { IsEdition result self.edition }
     {
-        match self.numbers.edition {
-            0 => Edition::Hfs,
-            _ => Edition::HfsPlus,
-        }
+        self.numbers.edition()
     }
 
     pub fn tree(self) -> Tree

@@ -18,7 +18,7 @@ fn keys_right(row: &[u8], count: usize) -> bool
     if count == 0 {
         return true;
     }
-    let form = of_hfs();
+    let form = of_hfs().numbers();
     if !key_lawful(form, row, 0) {
         return false;
     }

@@ -22,10 +22,11 @@ pub fn extents_ascend(form: Form, image: &[u8], node: u32) -> bool
     }
     let step = record_step(form, image, node);
     let mut at = record_at(form, image, node, 0);
-    let mut key = key_in(form, image, at);
+    let numbers = form.numbers();
+    let mut key = key_in(numbers, image, at);
     for _i in 0..c - 1 {
         at += step;
-        let next = key_in(form, image, at);
+        let next = key_in(numbers, image, at);
         if !extent_keys::key::is_below(key, next) {
             return false;
         }

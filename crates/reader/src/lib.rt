@@ -2,7 +2,6 @@
 #![tactic(auto)]
 
 ghost use Rattle.std.specs.Prelude.{◌≡◌, length};
-ghost use Rattle.btree.specs.Faults.{number_of};
 ghost use Rattle.btree.specs.Numbers.{lookup_reply};
 ghost use Rattle.btree.specs.Search.{refused};
 ghost use Rattle.frame.specs.Form.{Fair};
@@ -10,8 +9,8 @@ ghost use Rattle.formats.specs.Asked.{asked_rank};
 ghost use Rattle.reader.specs.Reader.{Leaves, looked_up_by, found_part, salvaged_by, seen_part, unseen};
 ghost use Rattle.reader.specs.Demands.{PartOf};
 
-use btree::fault::{Fault, Refusal};
-use btree::{Answer, Lookup, Path, Place, Salvage};
+use btree::fault::{Fault, Refusal, verdict};
+use btree::{Answer, Lookup, Path, Place, Salvage, Verdict};
 use checks::check;
 use extent_keys::key::SortKey;
 use formats::records::data_of;
@@ -21,11 +20,11 @@ use scan::first_seen;
 use search::descent::descend;
 
 // A lookup that is refused: no path, no key compared.
-pub fn refusal(fault: Fault) -> Lookup
-    ensures { result ≡ refused (number_of fault.refusal) fault.place }
+pub fn refusal(t: Verdict) -> Lookup
+    ensures { result ≡ refused t.number t.place }
 {
     Lookup {
-        answer: Answer::Refused(fault.refusal.number(), fault.place),
+        answer: Answer::Refused(t.number, t.place),
         path: Path {
             nodes: [0; 8],
             len: 0,
@@ -56,11 +55,11 @@ pub fn lookup(
     ensures leaves { Leaves form image.now (lookup_reply result.answer).number work.old work.new }
 {
     if !lawful {
-        return refusal(Fault::at_node(Refusal::AskedKey, 0));
+        return refusal(verdict(Err(Fault::at_node(Refusal::AskedKey, 0))));
     }
     match check(form, image, work) {
         Ok(()) => descend(form, image, key, name),
-        Err(fault) => refusal(fault),
+        Err(fault) => refusal(verdict(Err(fault))),
     }
 }
 

@@ -12,6 +12,7 @@ ghost use Rattle.replies.specs.Written.{part_bytes, data_bytes, wide_bytes, Foun
 use btree::{Answer, Lookup, Place, Salvage, Verdict};
 use formats::records::{data_at, data_size};
 use frame::form::{Form, FormNumbers, of_hfs};
+use image::bytes::byte_at;
 
 fn reply_numbers(number: u32, place: Place) -> [u32; 3]
     ensures { result ≡ reply_numbers (fails number place) }
@@ -63,9 +64,11 @@ pub fn part_bytes<const N: usize>(image: &[u8], at: usize, size: usize) -> [u8; 
 {
     let mut data = [0; N];
     let rest = &image[at.min(image.len())..];
-    let part = &rest[..size.min(rest.len())];
-    let len = part.len().min(N);
-    data[..len].copy_from_slice(&part[..len]);
+    let len = size.min(N);
+    // By index: `copy_from_slice` has the archive for C need `memcpy` from outside.
+    for k in 0..len {
+        data[k] = byte_at(rest, k) as u8;
+    }
     data
 }
 

@@ -19,11 +19,12 @@ pub fn is_outside(form: Form, image: &[u8], node: u32, key: SortKey) -> bool
             if c == 0 {
                 return false;
             }
-            let first = key_at(form, image, record_at(form, image, node, 0));
+            let numbers = form.numbers();
+            let first = key_at(numbers, image, record_at(form, image, node, 0));
             if is_below(key, first) {
                 return true;
             }
-            let last = key_at(form, image, record_at(form, image, node, c - 1));
+            let last = key_at(numbers, image, record_at(form, image, node, c - 1));
             is_below(last, key)
         }
         Tree::Catalog => false,

@@ -19,7 +19,7 @@ module _ (v : View) (bits : List ℕ) (w : Walk) (e : Entry) (t : Verdict) (is :
   unfolding step
   step-lands = ap (landed v bits w e) (sym is)
 
-  pub step-stops : (t.number ≡ 0 → ⊥) → step v (going bits w) e ≡ stopped bits t
+  pub step-stops : (t.number ≡ 0 → ⊥) → step v (going bits w) e ≡ stopped bits w t
   unfolding landed
   step-stops h = step-lands ∙ if-other t.number _ _ h
 

@@ -1,6 +1,6 @@
 -- What a step of the walk, and a visit of a node with all below it, ask and give.
 -- Assumes nothing.
-use Rattle.std.specs.Prelude.{◌≡◌, List, ℕ, ◌+◌, ◌*◌, ◌≤◌, length, Result, IfOk}
+use Rattle.std.specs.Prelude.{◌≡◌, List, ℕ, ◌+◌, ◌*◌, ◌≤◌, length, Result}
 use Rattle.btree.specs.declared.fault.Fault.{Fault}
 use Rattle.frame.specs.declared.form.Form.{Form}
 use Rattle.frame.specs.Form.{Fair}
@@ -26,7 +26,7 @@ pub record Ready (form : Form) (img bits : List ℕ) (e : Pointer) (h : ℕ) (w 
   pub levels : e.level + h + 1 ≡ (view form img).depth
   pub small : Small bits w
 
--- what they give, with the bits as they leave them
-pub record Gives (bits : List ℕ) (r : Result Walk Fault) (want : State) : Type 0 where
-  pub is : state_of bits r ≡ want
-  pub small : IfOk r (Small bits)
+-- what they give, with the bits and the walk as they leave them
+pub record Gives (bits : List ℕ) (w : Walk) (r : Result (Unit {0}) Fault) (want : State) : Type 0 where
+  pub is : state_of bits w r ≡ want
+  pub small : Small bits w

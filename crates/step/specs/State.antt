@@ -19,15 +19,15 @@ use Rattle.step.specs.declared.state.Walk.{Walk}
 abbrev pub entry : Form → List ℕ → Pointer → Entry
 entry form img e = record { node = e.node; from = e.from; level = e.level; low = bound form img e.low; high = bound form img e.high }
 
--- how a walk stands, with the bits of the nodes met, and of the header and the map chain: it goes on with what goes by value, or stopped at a fault
+-- how a walk stands, with the bits of the nodes met, and of the header and the map chain: it goes on with what it keeps beside them, or stopped at a fault with what it kept until then
 pub data State : Type 0 where
   going : List ℕ → Walk → State
-  stopped : List ℕ → Verdict → State
+  stopped : List ℕ → Walk → Verdict → State
 
 -- the same, as the code has it
-abbrev pub state_of : List ℕ → Result Walk Fault → State
-state_of bits (Ok w) = going bits w
-state_of bits (Err f) = stopped bits (fault_verdict f)
+abbrev pub state_of : List ℕ → Walk → Result (Unit {0}) Fault → State
+state_of bits w (Ok u) = going bits w
+state_of bits w (Err f) = stopped bits w (fault_verdict f)
 
 -- test 4: the bits set are those of the header, the map chain and the nodes met
 unfoldable pub fresh_in : ℕ → List ℕ → ℕ → Bool
@@ -52,7 +52,7 @@ unfoldable pub landed : View → List ℕ → Walk → Entry → Verdict → Sta
 landed v bits w e t =
     if_zero t.number
     (going (with_bit bits e.node) (kept w e.node e.level (eqb (e.level + 1) v.depth) (v.count e.node)))
-    (stopped bits t)
+    (stopped bits w t)
 
 abbrev pub last_at : Walk → ℕ → ℕ
 last_at w d = get_or w.last d 0
@@ -60,7 +60,7 @@ last_at w d = get_or w.last d 0
 -- the tests at an entry, and what is kept of it; a walk that stopped stays
 unfoldable pub step : View → State → Entry → State
 step v (going bits w) e = landed v bits w e (test v (fresh_in v.total bits e.node) (last_at w e.level) e)
-step v (stopped bits t) e = stopped bits t
+step v (stopped bits w t) e = stopped bits w t
 
 -- a step at each entry, one after another
 unfoldable pub steps : View → State → List Entry → State

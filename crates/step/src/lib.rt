@@ -19,22 +19,23 @@ pub mod node;
 pub mod pointer;
 pub mod state;
 
-// The state with the node kept and its bit set, or the first fault at it.
+// The state with the node kept and its bit set, or as it stood, with the first fault at the node.
 pub fn stepped(
     form: Form,
     image: &[u8],
     bits: &mut [u8],
-    w: Walk,
+    w: &mut Walk,
     e: Pointer,
     below: u32,
-) -> Result<Walk, Fault>
-    requires { Ready form image.now bits.old e below w }
-    ensures { Gives bits.new result (step (view form image.now) (going bits.old w) (entry form image.now e)) }
+) -> Result<(), Fault>
+    requires { Ready form image.now bits.old e below w.old }
+    ensures { Gives bits.new w.new result (step (view form image.now) (going bits.old w.old) (entry form image.now e)) }
 {
     let fresh = is_fresh(bits, be32(image, 36), e.node);
     let p = w.last[e.level as usize];
     tested(form, image, fresh, p, e)?;
     let c = count_of(form, image, e.node);
     mark(bits, e.node);
-    Ok(kept_at(w, e.node, e.level, below == 0, c))
+    *w = kept_at(*w, e.node, e.level, below == 0, c);
+    Ok(())
 }

@@ -37,7 +37,7 @@ use Rattle.chain.proofs.Marks.{marks-more}
 -- what a walk that stands so finds in all
 unfoldable pub finish : View → State → Verdict
 finish v (going b w) = closing v (last_at w) w.first w.records
-finish v (stopped b t) = t
+finish v (stopped b w t) = t
 
 -- the nodes met, with the header and the map chain
 abbrev pub met : View → List Entry → List ℕ
@@ -56,7 +56,7 @@ pub record Agrees (v : View) (b : List ℕ) (w : Walk) (done : List Entry) : Typ
 -- where the walk goes on
 abbrev pub AgreesOn : View → State → List Entry → Type 0
 AgreesOn v (going b w) done = Agrees v b w done
-AgreesOn v (stopped b t) done = Unit {0}
+AgreesOn v (stopped b w t) done = Unit {0}
 
 -- the entries es after those done, the latest first
 abbrev pub onto : List Entry → List Entry → List Entry
@@ -159,7 +159,7 @@ module _ (v : View) (shallow : v.depth ≤ 8) where
           rw (step_keeps v b w e t is q) (record { finds = k.finds ∙ sym (if-zero t.number _ _ q); keeps = k.keeps })
       go (suc n) q r =
           let bad : t.number ≡ 0 → ⊥ = λ z. omega arith in
-          rw (step-stops v b w e t is bad, steps-stopped v b t es) (record { finds = sym (if-other t.number _ _ bad); keeps = tt })
+          rw (step-stops v b w e t is bad, steps-stopped v b w t es) (record { finds = sym (if-other t.number _ _ bad); keeps = tt })
 
   -- the whole tree
   module _ (b : List ℕ) (w : Walk) (a : Agrees v b w []) (s : State) (is : s ≡ steps v (going b w) (tree_entries v v.depth)) where

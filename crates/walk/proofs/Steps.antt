@@ -12,6 +12,7 @@ use Rattle.btree.specs.Tree.{View}
 use Rattle.btree.specs.Walk.{Entry, entries, kid}
 use Rattle.btree.proofs.Left.{one_more, none_left}
 use Rattle.step.specs.declared.pointer.Pointer.{Pointer}
+use Rattle.step.specs.declared.state.Walk.{Walk}
 use Rattle.frame.specs.declared.form.Form.{Form}
 use Rattle.formats.specs.Format.{view}
 use Rattle.order.specs.Bound.{bound}
@@ -26,10 +27,10 @@ module _ (v : View) where
   steps-append s [] ys = refl
   steps-append s (x ∷ xs) ys = steps-append (step v s x) xs ys
 
-  pub steps-stopped : (b : List ℕ) (t : Verdict) (es : List Entry) → steps v (stopped b t) es ≡ stopped b t
+  pub steps-stopped : (b : List ℕ) (w : Walk) (t : Verdict) (es : List Entry) → steps v (stopped b w t) es ≡ stopped b w t
   unfolding steps step
-  steps-stopped b t [] = refl
-  steps-stopped b t (x ∷ es) = steps-stopped b t es
+  steps-stopped b w t [] = refl
+  steps-stopped b w t (x ∷ es) = steps-stopped b w t es
 
   module _ (s : State) (b d : ℕ) (from : Place) (lo hi : Option ℕ) (n : ℕ) where
     pub steps-leaf : b ≡ 0 → steps v s (entries v b d from lo hi n) ≡ step v s (record { node = n; from = from; level = d; low = lo; high = hi })
@@ -37,13 +38,14 @@ module _ (v : View) where
     steps-leaf e = rw e
 
     -- where the node stops the walk, what is below it does not matter
-    pub steps-first : (bits : List ℕ) (t : Verdict) → stopped bits t ≡ step v s (record { node = n; from = from; level = d; low = lo; high = hi }) → stopped bits t ≡ steps v s (entries v b d from lo hi n)
+    pub steps-first : (bits : List ℕ) (w : Walk) (t : Verdict) → stopped bits w t ≡ step v s (record { node = n; from = from; level = d; low = lo; high = hi })
+        → stopped bits w t ≡ steps v s (entries v b d from lo hi n)
     unfolding steps
-    steps-first bits t e = go b
+    steps-first bits w t e = go b
       where
-        go : (k : ℕ) → stopped bits t ≡ steps v s (entries v k d from lo hi n)
+        go : (k : ℕ) → stopped bits w t ≡ steps v s (entries v k d from lo hi n)
         go zero = e
-        go (suc k) = sym (steps-stopped bits t (span 0 (v.count n) (kid v k d hi n))) ∙ ap (λ (x : State). steps v x (span 0 (v.count n) (kid v k d hi n))) e
+        go (suc k) = sym (steps-stopped bits w t (span 0 (v.count n) (kid v k d hi n))) ∙ ap (λ (x : State). steps v x (span 0 (v.count n) (kid v k d hi n))) e
 
     pub steps_index : (b ≡ 0 → ⊥)
         → steps v s (entries v b d from lo hi n)

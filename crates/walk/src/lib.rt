@@ -23,13 +23,13 @@ pub mod closing;
 pub mod visit;
 
 // All nodes of the tree, from the root on.
-fn visit_tree(form: Form, image: &[u8], bits: &mut [u8], w: Walk) -> Result<Walk, Fault>
-    requires { Walkable form image.now bits.old × Small bits.old w }
-    ensures { state_of bits.new result ≡ steps (view form image.now) (going bits.old w) (tree_entries (view form image.now) (view form image.now).depth) }
+fn visit_tree(form: Form, image: &[u8], bits: &mut [u8], w: &mut Walk) -> Result<(), Fault>
+    requires { Walkable form image.now bits.old × Small bits.old w.old }
+    ensures { state_of bits.new w.new result ≡ steps (view form image.now) (going bits.old w.old) (tree_entries (view form image.now) (view form image.now).depth) }
 {
     let depth = be16(image, 14);
     if depth == 0 {
-        return Ok(w);
+        return Ok(());
     }
     let from = Place {
         node: 0,
@@ -51,13 +51,13 @@ pub fn tree_tests(form: Form, image: &[u8], bits: &mut [u8], nodes: u32) -> Resu
     requires { Begins form image.now bits.old nodes }
     ensures { Ends form image.now bits.new result }
 {
-    let start = Walk {
+    let mut w = Walk {
         last: [0; 8],
         records: 0,
         first: 0,
         nodes,
     };
-    let w = visit_tree(form, image, bits, start)?;
+    visit_tree(form, image, bits, &mut w)?;
     closing_tests(form, image, w)?;
     Ok(w.nodes)
 }

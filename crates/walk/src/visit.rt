@@ -45,36 +45,37 @@ fn pointer_at(form: Form, image: &[u8], e: Pointer, i: u32, c: u32) -> Pointer
     }
 }
 
-// The node that is pointed at: each node before its children, children left to right; the levels still below the node fall.
+// The node that is pointed at: each node before its children, children left to right; the levels still below the node fall. At a fault the walk stays as it
+// stood there.
 pub fn visit(
     form: Form,
     image: &[u8],
     bits: &mut [u8],
-    w: Walk,
+    w: &mut Walk,
     e: Pointer,
     below: u32,
-) -> Result<Walk, Fault>
-    requires { Ready form image.now bits.old e below w }
-    ensures { Gives bits.new result (steps (view form image.now) (going bits.old w) (entries_at form image.now below e)) }
+) -> Result<(), Fault>
+    requires { Ready form image.now bits.old e below w.old }
+    ensures { Gives bits.new w.new result (steps (view form image.now) (going bits.old w.old) (entries_at form image.now below e)) }
 {
-    let mut x = stepped(form, image, bits, w, e, below)?;
+    stepped(form, image, bits, w, e, below)?;
     if below == 0 {
-        return Ok(x);
+        return Ok(());
     }
     let c = count_of(form, image, e.node);
     let mut i: u32 = 0;
     // Counted by hand: a run takes as many records as it has leaves.
     while i < c {
         // The leaves that surely pass cost no visit each.
-        let run = leaf_run(form, image, bits, x, e.node, i, c, e.level, below, e.high);
-        x = ran(x, e.level + 1, run);
+        let run = leaf_run(form, image, bits, *w, e.node, i, c, e.level, below, e.high);
+        *w = ran(*w, e.level + 1, run);
         i += run.count;
         if i >= c {
-            return Ok(x);
+            return Ok(());
         }
         let p = pointer_at(form, image, e, i, c);
-        x = visit(form, image, bits, x, p, below - 1)?;
+        visit(form, image, bits, w, p, below - 1)?;
         i += 1;
     }
-    Ok(x)
+    Ok(())
 }

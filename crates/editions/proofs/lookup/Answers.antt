@@ -3,8 +3,8 @@ use mathlib.Core.Path.{refl, sym, ap, ◌∙◌}
 use mathlib.Core.List.Memᴰ
 use native.Mathlib.Omega.{arith}
 use Rattle.btree.specs.declared.Lookup.{Lookup}
-use Rattle.btree.specs.declared.fault.Fault.{Fault}
-use Rattle.btree.specs.Faults.{number_of}
+use Rattle.btree.specs.declared.Verdict.{Verdict}
+use Rattle.btree.specs.Faults.{fault_verdict}
 use Rattle.btree.specs.Numbers.{lookup_reply}
 use Rattle.btree.specs.Search.{refused}
 use Rattle.btree.proofs.Work.{left-untouched, leaves}
@@ -21,8 +21,8 @@ use Rattle.editions.proofs.Editions.{lookup-listed, lookup-unlisted, says-lookup
 use Rattle.editions.proofs.lookup.Goals as goal
 use Rattle.editions.proofs.lookup.Goals.{After-shared_slice_known-1, Start}
 
-abbrev refuse : Fault → Lookup
-refuse f = refused (number_of f.refusal) f.place
+abbrev refuse : Verdict → Lookup
+refuse v = refused v.number v.place
 
 bytes : (c : After-shared_slice_known-1) → Bytes c.args.image.now
 bytes c i = omega (arith, c.shared_slice_known-1.given i)
@@ -35,7 +35,7 @@ returns-in-None c =
     let a = c.args in
     let f = form_of a.edition a.size in
     let u = c.in-None.ensures in
-    let e = c.refusal.ensures ∙ ap refuse c.at_node.ensures in record {
+    let e = c.refusal.ensures ∙ ap refuse (c.verdict.ensures ∙ ap fault_verdict c.at_node.ensures) in record {
       equal = e ∙ sym (lookup-unlisted f a.image.now u _ _);
       says = refuses-lookup f a.image.now u _ _ _ e;
       leaves = rw e (leaves (layout_of f) _ (format_of f) 25 _ _ (sym (left-untouched (layout_of f) _ (format_of f) 25 _ (Memᴰ.head refl))));

@@ -5,8 +5,7 @@ use mathlib.Core.List.Memᴰ
 use native.Mathlib.Omega.{arith}
 use Rattle.btree.specs.declared.Lookup.{Lookup}
 use Rattle.btree.specs.declared.Verdict.{Verdict}
-use Rattle.btree.specs.declared.fault.Fault.{Fault}
-use Rattle.btree.specs.Faults.{number_of}
+use Rattle.btree.specs.Faults.{fault_verdict}
 use Rattle.btree.specs.Search.{refused}
 use Rattle.btree.proofs.Faults.{some_number}
 use Rattle.btree.proofs.Work.{left-untouched, leaves}
@@ -20,15 +19,12 @@ use Rattle.reader.proofs.lookup.Goals.{After-check}
 lawful : (c : After-check) → c.args.lawful ≡ true
 lawful c = c.if-not-lawful.false
 
-abbrev refuse : Fault → Lookup
-refuse f = refused (number_of f.refusal) f.place
-
-abbrev refuse-as : Verdict → Lookup
-refuse-as v = refused v.number v.place
+abbrev refuse : Verdict → Lookup
+refuse v = refused v.number v.place
 
 pub returns-then-not-lawful : goal.returns-then-not-lawful
 returns-then-not-lawful c =
-    let e = c.refusal.ensures ∙ ap refuse c.at_node.ensures in
+    let e = c.refusal.ensures ∙ ap refuse (c.verdict.ensures ∙ ap fault_verdict c.at_node.ensures) in
     let l = layout_of c.args.form in
     let f = format_of c.args.form in record {
       equal = rw (c.if-not-lawful.true) e;
@@ -40,8 +36,8 @@ returns-in-Err c =
     let e = c.in-Err.ensures.equal in
     let n = ap (λ (v : Verdict). v.number) e in
     let s = some_number c.in-Err.fault.refusal in record {
-      equal = rw (lawful (goal.at.returns-in-Err c).After-check) (c.refusal-in-Err.ensures ∙ ap refuse-as e ∙ sym (by-refused _ _ _ _ (λ z. omega (arith, n ∙ z, s))));
-      leaves = rw c.refusal-in-Err.ensures c.in-Err.ensures.leaves;
+      equal = rw (lawful (goal.at.returns-in-Err c).After-check) (c.refusal-in-Err.ensures ∙ ap refuse (c.verdict-in-Err.ensures ∙ e) ∙ sym (by-refused _ _ _ _ (λ z. omega (arith, n ∙ z, s))));
+      leaves = rw (c.refusal-in-Err.ensures, c.verdict-in-Err.ensures) c.in-Err.ensures.leaves;
     }
 
 pub descend-requires : goal.descend-requires

@@ -17,13 +17,13 @@ start c = record { last = replicate 8 0; records = 0; first = 0; nodes = c.args.
 began : (c : Start) → Agrees (view c.args.form c.args.image.now) c.args.bits.now (start c) []
 began c = begun (view c.args.form c.args.image.now) c.args.bits.now c.args.nodes c.requires.walkable.room c.requires.marks c.requires.count
 
-pub returns-in_err-w : goal.returns-in_err-w
+pub returns-in_err-visit_tree : goal.returns-in_err-visit_tree
 unfolding finish
-returns-in_err-w c =
+returns-in_err-visit_tree c =
     let p = err_from_is_err_and c.from_residual.result c.from_residual.ensures.1 in
     rw (p.1, p.2)
     (record {
-      verdict = tree-finds (view c.args.form c.args.image.now) c.requires.walkable.shallow c.args.bits.now _ (began (goal.at.returns-in_err-w c).Start) _ c.in_err-w.ensures;
+      verdict = tree-finds (view c.args.form c.args.image.now) c.requires.walkable.shallow c.args.bits.now _ (began (goal.at.returns-in_err-visit_tree c).Start) _ c.in_err-visit_tree.ensures;
       marks = tt;
       count = tt;
     })
@@ -36,7 +36,7 @@ returns-in_err-closing_tests c =
     (record {
       verdict =
           c.in_err-closing_tests.ensures
-          ∙ tree-finds (view c.args.form c.args.image.now) c.requires.walkable.shallow c.args.bits.now _ (began (goal.at.returns-in_err-closing_tests c).Start) _ c.in_ok-w.ensures;
+          ∙ tree-finds (view c.args.form c.args.image.now) c.requires.walkable.shallow c.args.bits.now _ (began (goal.at.returns-in_err-closing_tests c).Start) _ c.in_ok-visit_tree.ensures;
       marks = tt;
       count = tt;
     })
@@ -46,9 +46,9 @@ unfolding finish
 returns c =
     let v = view c.args.form c.args.image.now in
     let s = began (goal.at.returns c).Start in
-    let a = tree-keeps v c.requires.walkable.shallow c.args.bits.now _ s _ c.in_ok-w.ensures in
+    let a = tree-keeps v c.requires.walkable.shallow c.args.bits.now _ s _ c.in_ok-visit_tree.ensures in
     record {
-      verdict = c.in_ok-closing_tests.ensures ∙ tree-finds v c.requires.walkable.shallow c.args.bits.now _ s _ c.in_ok-w.ensures;
+      verdict = c.in_ok-closing_tests.ensures ∙ tree-finds v c.requires.walkable.shallow c.args.bits.now _ s _ c.in_ok-visit_tree.ensures;
       marks = marks-reached v _ a.marks;
       count = a.nodes ∙ size-reached v;
     }

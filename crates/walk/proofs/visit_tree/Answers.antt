@@ -14,7 +14,7 @@ pub returns-then-depth-eq0 : goal.returns-then-depth-eq0
 unfolding view_of steps
 returns-then-depth-eq0 c =
     let v = view c.args.form c.args.image.now in
-    ap (λ (k : ℕ). steps v (going c.args.bits.now c.args.w) (tree_entries v k)) (sym c.if-depth-eq0.true ∙ c.be16-depth.ensures.0)
+    ap (λ (k : ℕ). steps v (going c.args.bits.now c.args.w.now) (tree_entries v k)) (sym c.if-depth-eq0.true ∙ c.be16-depth.ensures.0)
 
 pub visit-requires : goal.visit-requires
 unfolding view_of
@@ -30,4 +30,4 @@ returns c =
     let e : v.depth ≡ suc (v.depth - 1) = let n = c.if-depth-eq0.false in let d = c.be16-depth.ensures.0 in omega arith in
     c.visit.ensures.is
     ∙ rw (c.be16-depth.ensures.0, c.be32.ensures, bound-none c.args.form c.args.image.now)
-    (ap (λ (k : ℕ). steps v (going c.args.bits.now c.args.w) (tree_entries v k)) (sym e))
+    (ap (λ (k : ℕ). steps v (going c.args.bits.now c.args.w.now) (tree_entries v k)) (sym e))

@@ -35,7 +35,7 @@ next c =
 read : (c : After-key_in-next) → let a = c.args in
     rank_of c.key_in-next.result ≡ (view a.form a.image.now).key a.node (c.loop-i._i + 1)
 unfolding view_of
-read c = rw (← next (goal.at.After-key_in-next c).In-loop-i) (c.key_in-next.ensures ∙ sym (rank-extents c.args.form c.requires.0 c.args.image.now _))
+read c = rw (← next (goal.at.After-key_in-next c).In-loop-i) ((rw c.numbers-numbers.ensures at c.key_in-next.ensures) ∙ sym (rank-extents c.args.form c.requires.0 c.args.image.now _))
 
 pub returns-then-c-eq0 : goal.returns-then-c-eq0
 unfolding view_of
@@ -54,7 +54,7 @@ unfolding view_of
 loop-i-init c =
     let r = c.record_at-at.ensures in
     let k = rank-extents c.args.form c.requires.0 c.args.image.now _ in
-    (r.0, omega (arith, r.1), rw (← r.0) (c.key_in-key.ensures ∙ sym k), λ j h. absurd (omega arith))
+    (r.0, omega (arith, r.1), rw (← r.0) ((rw c.numbers-numbers.ensures at c.key_in-key.ensures) ∙ sym k), λ j h. absurd (omega arith))
 
 pub key_in-next-requires : goal.key_in-next-requires
 key_in-next-requires c = let h = inside (goal.at.key_in-next-requires c).At-loop-i (c.loop-i._i + 1) (omega (arith, c.loop-i-test.true)) in let e = next (goal.at.key_in-next-requires c).In-loop-i in omega arith

@@ -7,5 +7,5 @@ use Rattle.order.proofs.ascent.extents_ascend.Given as goal
 
 abbrev pub invariant-loop-i : goal.invariant-loop-i
 invariant-loop-i l =
-    (l.at ≡ record_at l.form l.image l.node l._i) × (l.at ≤ 200000000000000 + 102 * l._i) × (rank_of l.key ≡ (view l.form l.image).key l.node l._i)
-    × ((j : ℕ) → j < l._i → (view l.form l.image).key l.node j < (view l.form l.image).key l.node (j + 1))
+    (l.at ≡ record_at l.fn.form l.image l.node l._i) × (l.at ≤ 200000000000000 + 102 * l._i) × (rank_of l.key ≡ (view l.fn.form l.image).key l.node l._i)
+    × ((j : ℕ) → j < l._i → (view l.fn.form l.image).key l.node j < (view l.fn.form l.image).key l.node (j + 1))

@@ -16,10 +16,10 @@ returns-then-c-eq0 c = never
 pub returns-then-is_below : goal.returns-then-is_below
 returns-then-is_below c e =
     let a = c.args in
-    below-first a.form a.image.now a.node (sym c.in-Extents.ensures) a.key _ _ 0 c.record_at.ensures.0 c.key_at-first.ensures refl (ltb-true _ _ (sym c.is_below.ensures ∙ c.if-is_below.true))
+    below-first a.form a.image.now a.node (sym c.in-Extents.ensures) a.key _ _ 0 c.record_at.ensures.0 (rw c.numbers-numbers.ensures at c.key_at-first.ensures) refl (ltb-true _ _ (sym c.is_below.ensures ∙ c.if-is_below.true))
 
 pub returns-else-is_below : goal.returns-else-is_below
 unfolding view_of
 returns-else-is_below c e =
     let a = c.args in
-    above-last a.form a.image.now a.node (sym c.in-Extents.ensures) a.key _ _ (c.count_of-c.result - 1) c.record_at-in-Extents.ensures.0 c.key_at-last.ensures (ap (λ m. m - 1) c.count_of-c.ensures.0) (ltb-true _ _ (sym c.is_below-in-Extents.ensures ∙ e))
+    above-last a.form a.image.now a.node (sym c.in-Extents.ensures) a.key _ _ (c.count_of-c.result - 1) c.record_at-in-Extents.ensures.0 (rw c.numbers-numbers.ensures at c.key_at-last.ensures) (ap (λ m. m - 1) c.count_of-c.ensures.0) (ltb-true _ _ (sym c.is_below-in-Extents.ensures ∙ e))

@@ -15,35 +15,35 @@ use Rattle.std.proofs.lemmas.Result.{err_from_is_err_and}
 use Rattle.walk.specs.Visit.{entries_at}
 use Rattle.walk.proofs.Steps.{steps-first, steps-stopped, steps-leaf, steps_index, kids-end, kids-on}
 use Rattle.walk.proofs.visit.+visit.Goals as goal
-use Rattle.walk.proofs.visit.+visit.Goals.{At-loop-i, After-ran-x}
+use Rattle.walk.proofs.visit.+visit.Goals.{At-loop-i, After-ran}
 
 -- what the loop is to give is what the visit is to give
 whole : (t : ℕ) (c : At-loop-i t) → let a = c.args in
-    steps (view a.form a.image.now) (going c.stepped.new.bits c.in_ok-x.x) (span 0 c.count_of-c.result (kid (view a.form a.image.now) (a.below - 1) a.e.level (bound a.form a.image.now a.e.high) a.e.node))
-    ≡ steps (view a.form a.image.now) (going a.bits.now a.w) (entries_at a.form a.image.now a.below a.e)
+    steps (view a.form a.image.now) (going c.stepped.new.bits c.stepped.new.w) (span 0 c.count_of-c.result (kid (view a.form a.image.now) (a.below - 1) a.e.level (bound a.form a.image.now a.e.high) a.e.node))
+    ≡ steps (view a.form a.image.now) (going a.bits.now a.w.now) (entries_at a.form a.image.now a.below a.e)
 unfolding view_of
 whole t c =
     let a = c.args in
     let v = view a.form a.image.now in
-    ap (λ (k : ℕ). steps v (going c.stepped.new.bits c.in_ok-x.x) (span 0 k (kid v (a.below - 1) a.e.level (bound a.form a.image.now a.e.high) a.e.node))) c.count_of-c.ensures.0
-    ∙ ap (λ (x : State). steps v x (span 0 (v.count a.e.node) (kid v (a.below - 1) a.e.level (bound a.form a.image.now a.e.high) a.e.node))) c.in_ok-x.ensures.is
-    ∙ sym (steps_index v (going a.bits.now a.w) a.below a.e.level a.e.from (bound a.form a.image.now a.e.low) (bound a.form a.image.now a.e.high) a.e.node c.if-below-eq0.false)
+    ap (λ (k : ℕ). steps v (going c.stepped.new.bits c.stepped.new.w) (span 0 k (kid v (a.below - 1) a.e.level (bound a.form a.image.now a.e.high) a.e.node))) c.count_of-c.ensures.0
+    ∙ ap (λ (x : State). steps v x (span 0 (v.count a.e.node) (kid v (a.below - 1) a.e.level (bound a.form a.image.now a.e.high) a.e.node))) c.in_ok-stepped.ensures.is
+    ∙ sym (steps_index v (going a.bits.now a.w.now) a.below a.e.level a.e.from (bound a.form a.image.now a.e.low) (bound a.form a.image.now a.e.high) a.e.node c.if-below-eq0.false)
 
 -- the same after a run
-run-on : (t : ℕ) (c : After-ran-x t) → let a = c.args in let r = c.leaf_run-run in
-    steps (view a.form a.image.now) (going r.new.bits c.ran-x.result)
+run-on : (t : ℕ) (c : After-ran t) → let a = c.args in let r = c.leaf_run-run in
+    steps (view a.form a.image.now) (going r.new.bits c.ran.result)
     (span (c.loop-i.i + r.result.count) (c.count_of-c.result - (c.loop-i.i + r.result.count)) (kid (view a.form a.image.now) (a.below - 1) a.e.level (bound a.form a.image.now a.e.high) a.e.node))
-    ≡ steps (view a.form a.image.now) (going c.stepped.new.bits c.in_ok-x.x) (span 0 c.count_of-c.result (kid (view a.form a.image.now) (a.below - 1) a.e.level (bound a.form a.image.now a.e.high) a.e.node))
-run-on t c = rw c.ran-x.ensures (sym c.leaf_run-run.ensures.is ∙ c.loop-i.invariant.1)
+    ≡ steps (view a.form a.image.now) (going c.stepped.new.bits c.stepped.new.w) (span 0 c.count_of-c.result (kid (view a.form a.image.now) (a.below - 1) a.e.level (bound a.form a.image.now a.e.high) a.e.node))
+run-on t c = rw c.ran.ensures (sym c.leaf_run-run.ensures.is ∙ c.loop-i.invariant.1)
 
-pub returns-in_err-x : goal.returns-in_err-x
-returns-in_err-x t c =
+pub returns-in_err-stepped : goal.returns-in_err-stepped
+returns-in_err-stepped t c =
     let p = err_from_is_err_and c.from_residual.result c.from_residual.ensures.1 in
-    rw (p.1, p.2) (record { is = steps-first _ _ _ _ _ _ _ _ _ _ c.in_err-x.ensures.is; small = tt })
+    rw (p.1, p.2) (record { is = steps-first _ _ _ _ _ _ _ _ _ _ _ c.in_err-stepped.ensures.is; small = c.in_err-stepped.ensures.small })
 
 pub returns-then-below-eq0 : goal.returns-then-below-eq0
 returns-then-below-eq0 t c =
-    let e = c.in_ok-x.ensures in
+    let e = c.in_ok-stepped.ensures in
     record { is = e.is ∙ sym (steps-leaf _ _ _ _ _ _ _ _ c.if-below-eq0.true); small = e.small }
 
 pub leaf_run-run-requires : goal.leaf_run-run-requires
@@ -61,8 +61,8 @@ leaf_run-run-requires t c =
       small = c.loop-i.invariant.2;
     }
 
-pub ran-x-requires : goal.ran-x-requires
-ran-x-requires t c =
+pub ran-requires : goal.ran-requires
+ran-requires t c =
     let p = c.requires in
     ran-fits _ _ _ _ (omega (arith, p.levels, p.walkable.shallow, c.if-below-eq0.false)) c.leaf_run-run.ensures.small
 
@@ -70,8 +70,8 @@ pub returns-then-i-c : goal.returns-then-i-c
 returns-then-i-c t c =
     let s = goal.at.returns-then-i-c t c in
     record {
-      is = sym (kids-end _ _ _ _ _ c.if-i-c.true) ∙ run-on t s.After-ran-x ∙ whole t s.At-loop-i;
-      small = rw c.ran-x.ensures c.leaf_run-run.ensures.small;
+      is = sym (kids-end _ _ _ _ _ c.if-i-c.true) ∙ run-on t s.After-ran ∙ whole t s.At-loop-i;
+      small = rw c.ran.ensures c.leaf_run-run.ensures.small;
     }
 
 pub pointer_at-p-requires : goal.pointer_at-p-requires
@@ -80,25 +80,25 @@ pointer_at-p-requires t c =
     let p = c.requires in
     (c.if-i-c.false, c.count_of-c.ensures.0, omega (arith, p.levels, p.walkable.shallow, c.if-below-eq0.false))
 
-pub returns-in_err-x-2 : goal.returns-in_err-x-2
-returns-in_err-x-2 t c =
-    let s = goal.at.returns-in_err-x-2 t c in
-    let p = err_from_is_err_and c.from_residual-in_err-x-2.result c.from_residual-in_err-x-2.ensures.1 in
+pub returns-in_err-visit : goal.returns-in_err-visit
+returns-in_err-visit t c =
+    let s = goal.at.returns-in_err-visit t c in
+    let p = err_from_is_err_and c.from_residual-in_err-visit.result c.from_residual-in_err-visit.ensures.1 in
     rw (p.1, p.2)
     (record {
       is =
-          sym (steps-stopped _ _ _ _) ∙ sym (kids-on _ _ (c.args.below - 1) c.args.e _ _ _ _ _ c.if-i-c.false c.pointer_at-p.ensures c.in_err-x-2.ensures.is)
-          ∙ run-on t s.After-ran-x ∙ whole t s.At-loop-i;
-      small = tt;
+          sym (steps-stopped _ _ _ _ _) ∙ sym (kids-on _ _ (c.args.below - 1) c.args.e _ _ _ _ _ c.if-i-c.false c.pointer_at-p.ensures c.in_err-visit.ensures.is)
+          ∙ run-on t s.After-ran ∙ whole t s.At-loop-i;
+      small = c.in_err-visit.ensures.small;
     })
 
 pub loop-i-preserved : goal.loop-i-preserved
 loop-i-preserved t c = (
   omega (arith, c.if-i-c.false),
-  sym (kids-on _ _ (c.args.below - 1) c.args.e _ _ _ _ _ c.if-i-c.false c.pointer_at-p.ensures c.in_ok-x-2.ensures.is) ∙ run-on t (goal.at.loop-i-preserved t c).After-ran-x,
-  c.in_ok-x-2.ensures.small,
+  sym (kids-on _ _ (c.args.below - 1) c.args.e _ _ _ _ _ c.if-i-c.false c.pointer_at-p.ensures c.in_ok-visit.ensures.is) ∙ run-on t (goal.at.loop-i-preserved t c).After-ran,
+  c.in_ok-visit.ensures.small,
 )
 
 pub returns : goal.returns
 returns t c =
-    record { is = sym (kids-end _ _ (going c.loop-i.bits c.loop-i.x) _ _ c.loop-i-test.false) ∙ c.loop-i.invariant.1 ∙ whole t (goal.at.returns t c).At-loop-i; small = c.loop-i.invariant.2 }
+    record { is = sym (kids-end _ _ (going c.loop-i.bits c.loop-i.w) _ _ c.loop-i-test.false) ∙ c.loop-i.invariant.1 ∙ whole t (goal.at.returns t c).At-loop-i; small = c.loop-i.invariant.2 }

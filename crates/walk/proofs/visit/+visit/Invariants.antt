@@ -14,9 +14,9 @@ use Rattle.walk.proofs.visit.+visit.Given as goal
 abbrev pub invariant-loop-i : goal.invariant-loop-i
 invariant-loop-i l =
     (l.i ≤ l.c)
-    × (steps (view l.form l.image) (going l.bits l.x) (span l.i (l.c - l.i) (kid (view l.form l.image) (l.below - 1) l.e.level (bound l.form l.image l.e.high) l.e.node))
-    ≡ steps (view l.form l.image) (going l.initial.bits l.initial.x) (span 0 l.c (kid (view l.form l.image) (l.below - 1) l.e.level (bound l.form l.image l.e.high) l.e.node)))
-    × Small l.bits l.x
+    × (steps (view l.form l.image) (going l.bits l.w) (span l.i (l.c - l.i) (kid (view l.form l.image) (l.below - 1) l.e.level (bound l.form l.image l.e.high) l.e.node))
+    ≡ steps (view l.form l.image) (going l.initial.bits l.initial.w) (span 0 l.c (kid (view l.form l.image) (l.below - 1) l.e.level (bound l.form l.image l.e.high) l.e.node)))
+    × Small l.bits l.w
 
 abbrev pub decreases-loop-i : goal.decreases-loop-i
 decreases-loop-i l = l.c - l.i
